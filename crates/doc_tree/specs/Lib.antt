@@ -1,0 +1,15 @@
+pub mod Bytes
+pub mod Data
+pub mod Doc
+pub mod DocCode
+pub mod Falls
+pub mod Moved
+pub mod Name
+pub mod Number
+pub mod Part
+pub mod Place
+pub mod Read
+pub mod Tokens
+pub mod Tree
+pub mod Valid
+pub mod Written
