@@ -1,0 +1,2 @@
+pub mod FailedLemmas
+pub mod SinkLemmas
