@@ -1,0 +1,4 @@
+pub mod VersionLemmas
+pub mod DecimalLemmas
+pub mod ReadBack
+pub mod FaultLemmas

@@ -1,0 +1,12 @@
+//! Laws: what the texts of versions and constraints read as.
+ghost use Rattle.version_rules.specs.Laws.{ConstraintsReadBack, VersionsReadBack};
+
+/// The text of a version reads as that version.
+pub fn versions_read_back()
+    ensures { VersionsReadBack }
+{}
+
+/// The text of a constraint reads as that constraint.
+pub fn constraints_read_back()
+    ensures { ConstraintsReadBack }
+{}
