@@ -1,0 +1,5 @@
+pub mod Names
+pub mod Items
+pub mod Spelling
+pub mod Stored
+pub mod Laws
