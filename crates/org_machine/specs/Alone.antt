@@ -1,0 +1,113 @@
+-- The isolation theorem's words: to each organisation the replies are those of a small machine that
+-- is given that organisation's requests alone.
+use Rattle.std.specs.Prelude.{◌≡◌, ℕ, List, [], ◌∷◌, ◌++◌, map, filter, Option, Some, None, is_some, bytes_eq}
+use Rattle.std.specs.List.{list_any}
+use Rattle.std.specs.List.Sorted.{IsStrictlySortedBy}
+use Rattle.doc_tree.specs.Doc.{words, dict, pairs_of}
+use Rattle.org_machine.specs.declared.replies.Reply.{Reply}
+use Rattle.org_machine.specs.declared.requests.Request.{Request}
+use Rattle.org_machine.specs.declared.refusals.Refusal.TheVariants.{OutOfMemory}
+use Rattle.org_machine.specs.Requests.{org_of, is_of}
+use Rattle.org_machine.specs.Replies.{shown}
+use Rattle.org_machine.specs.Refusals.{reply_to}
+use Rattle.org_machine.specs.States.{State, name_cmp}
+use Rattle.org_machine.specs.Organisations.{org_uri}
+use Rattle.org_machine.specs.Steps.{step}
+use Rattle.org_machine.specs.Marks.{Mark, served, short, down, mark_of, answer, after, IsLawful}
+
+-- a request and the reply to it
+pub record Exchange : Type 0 where
+  pub request : Request
+  pub reply : Reply
+
+-- a request and what befell it
+pub record Asked : Type 0 where
+  pub request : Request
+  pub mark : Mark
+
+-- what was asked in an exchange
+abbrev pub asked_in : Exchange → Asked
+asked_in exchange = record { request = exchange.request; mark = mark_of exchange.reply }
+
+-- the exchanges of one organisation, in order
+abbrev pub own : List ℕ → List Exchange → List Exchange
+own name exchanges = filter (λ e. is_of name e.request) exchanges
+
+-- the small machine: the replies to these requests, from this state on
+abbrev pub replies_alone : State → List Asked → List Reply
+replies_alone state [] = []
+replies_alone state (asked ∷ rest) = answer asked.mark asked.request state ∷ replies_alone (after asked.mark asked.request state) rest
+
+-- the state in which it ends
+abbrev pub state_alone : State → List Asked → State
+state_alone state [] = state
+state_alone state (asked ∷ rest) = state_alone (after asked.mark asked.request state) rest
+
+-- each mark is one that the request may have in the state at its place
+abbrev pub MarksAreLawful : State → List Asked → Type 0
+MarksAreLawful state [] = Unit {0}
+MarksAreLawful state (asked ∷ rest) = IsLawful asked.mark asked.request state × MarksAreLawful (after asked.mark asked.request state) rest
+
+-- these exchanges are those of the small machine, from this state on
+pub record RunsAlone (opened : State) (exchanges : List Exchange) : Type 0 where
+  pub replies : map (λ e. e.reply) exchanges ≡ replies_alone opened (map asked_in exchanges)
+  pub lawful : MarksAreLawful opened (map asked_in exchanges)
+
+-- the state of each organisation, by its name
+abbrev pub States : Type 0
+States = List ℕ → State
+
+-- no organisation is there
+abbrev pub nobody : States
+nobody name = None
+
+-- what a request of no organisation is answered: the same in every state, or the names of all organisations
+pub data Outside : Type 0 where
+  says : Reply → Outside
+  lists : Outside
+
+-- the listing of organisations isn't built, so each of these requests is answered the same in every state
+abbrev pub outside : Request → Outside
+outside request = says (step request None).reply
+
+-- the listing of these organisations
+abbrev pub listing : List (List ℕ) → Reply
+listing names = shown (dict (pairs_of (map (λ name. (name, words (org_uri name))) names)))
+
+-- the reply lists the organisations that are there, in the order of their names
+pub record Lists (states : States) (reply : Reply) : Type 0 where
+  pub names : List (List ℕ)
+  pub sorted : IsStrictlySortedBy name_cmp names
+  pub there : (name : List ℕ) → list_any (bytes_eq name) names ≡ is_some (states name)
+  pub told : reply ≡ listing names
+
+-- the reply is the one that is due in these states
+abbrev pub IsDue : States → Outside → Reply → Type 0
+IsDue states (says due) reply = reply ≡ due
+IsDue states lists reply = Lists states reply
+
+-- a request of no organisation is answered in these states, by its mark
+abbrev pub IsAnsweredBy : Mark → States → Request → Reply → Type 0
+IsAnsweredBy served states request reply = IsDue states (outside request) reply
+IsAnsweredBy short states request reply = reply ≡ reply_to OutOfMemory
+IsAnsweredBy down states request reply = ⊥
+
+-- what is of no organisation is answered in these states as it is due
+abbrev pub OutsideAnswer : States → Option (List ℕ) → Request → Reply → Type 0
+OutsideAnswer states (Some org) request reply = Unit {0}
+OutsideAnswer states None request reply = IsAnsweredBy (mark_of reply) states request reply
+
+-- the states that these exchanges leave
+abbrev pub states_after : States → List Exchange → States
+states_after opened exchanges name = state_alone (opened name) (map asked_in (own name exchanges))
+
+-- each request of no organisation is answered in the states at its place in the stream
+abbrev pub OutsideAnswered : States → List Exchange → List Exchange → Type 0
+OutsideAnswered opened done [] = Unit {0}
+OutsideAnswered opened done (e ∷ rest) =
+    OutsideAnswer (states_after opened done) (org_of e.request) e.request e.reply × OutsideAnswered opened (done ++ e ∷ []) rest
+
+-- to each organisation the replies are those of the small machine that is given its own requests alone
+pub record Alone (opened : States) (exchanges : List Exchange) : Type 0 where
+  pub each : (name : List ℕ) → RunsAlone (opened name) (own name exchanges)
+  pub others : OutsideAnswered opened [] exchanges

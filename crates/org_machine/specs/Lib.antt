@@ -1,0 +1,13 @@
+pub mod Requests
+pub mod Replies
+pub mod Refusals
+pub mod States
+pub mod NodeMaps
+pub mod Outcomes
+pub mod Organisations
+pub mod Nodes
+pub mod Steps
+pub mod Changes
+pub mod Marks
+pub mod Alone
+pub mod Serving

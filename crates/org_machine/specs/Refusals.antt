@@ -1,0 +1,39 @@
+-- What each refusal is answered with, and the first of several refusals.
+use Rattle.std.specs.Prelude.{Bool, cond, ℕ, List, [], ◌∷◌, Option, Some, None, codes}
+use Rattle.doc_tree.specs.Doc.{Doc, words, list, no_docs, then_doc}
+use Rattle.org_machine.specs.declared.refusals.Refusal.{Refusal}
+use Rattle.org_machine.specs.declared.refusals.Refusal.TheVariants.{NotImplemented, NotFound, AlreadyExists, OutOfMemory}
+use Rattle.org_machine.specs.declared.replies.Reply.{Reply}
+use Rattle.org_machine.specs.Replies.{with_body, one_key}
+
+-- the status of a refusal
+abbrev pub status_of : Refusal → ℕ
+status_of NotImplemented = 501
+status_of NotFound = 404
+status_of AlreadyExists = 409
+status_of OutOfMemory = 500
+
+-- its words
+abbrev pub words_of : Refusal → List ℕ
+words_of NotImplemented = codes "not implemented"
+words_of NotFound = codes "not found"
+words_of AlreadyExists = codes "already exists"
+words_of OutOfMemory = codes "out of memory"
+
+-- {"error":["WORDS"]}
+abbrev pub error_body : List ℕ → Doc
+error_body message = one_key (codes "error") (list (then_doc (words message) no_docs))
+
+-- the reply that tells of a refusal
+abbrev pub reply_to : Refusal → Reply
+reply_to refusal = with_body (status_of refusal) (error_body (words_of refusal))
+
+-- a refusal that stands where the test holds
+abbrev pub refuses : Refusal → Bool → Option Refusal
+refuses refusal stands = cond stands (Some refusal) None
+
+-- the first refusal that stands
+abbrev pub first_some : List (Option Refusal) → Option Refusal
+first_some [] = None
+first_some (None ∷ rest) = first_some rest
+first_some (Some refusal ∷ rest) = Some refusal

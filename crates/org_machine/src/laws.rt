@@ -1,0 +1,26 @@
+//! Laws of the definitions, which need no code.
+
+ghost use Rattle.std.specs.Prelude.{◌≡◌, ℕ, List, map};
+ghost use Rattle.org_machine.specs.declared.requests.Request.{Request};
+ghost use Rattle.org_machine.specs.Alone.{Alone, Exchange, States, asked_in, own};
+ghost use Rattle.org_machine.specs.Marks.{mark_of, served};
+ghost use Rattle.org_machine.specs.States.{State};
+ghost use Rattle.org_machine.specs.Steps.{step};
+
+/// Two streams of exchanges that agree on one organisation's own requests, on what befell them and
+/// on its opened state give that organisation equal replies, whatever else is in them.
+pub fn two_worlds()
+    ensures { (opened other : States) (es fs : List Exchange) (name : List ℕ)
+        → Alone opened es
+        → Alone other fs
+        → opened name ≡ other name
+        → map asked_in (own name es) ≡ map asked_in (own name fs)
+        → map (λ e. e.reply) (own name es) ≡ map (λ e. e.reply) (own name fs) }
+{}
+
+/// No step is answered 500 or 503, so these two replies tell of want of memory and of a keeper that
+/// failed, and of nothing else.
+#[tactic(auto, using(crate::proofs::Served::step_is_served))]
+pub fn steps_are_served()
+    ensures { (request : Request) (state : State) → mark_of (step request state).reply ≡ served }
+{}
