@@ -1,0 +1,6 @@
+pub mod Verbs
+pub mod Headers
+pub mod Targets
+pub mod Bodies
+pub mod Places
+pub mod Requests

@@ -1,0 +1,16 @@
+//! From the parts of an HTTP message to the request that they spell.
+#![tactic(auto)]
+
+mod bodies;
+mod headers;
+mod places;
+mod requests;
+mod targets;
+mod verbs;
+
+pub use bodies::body_of;
+pub use headers::{HeaderValue, api_of, caller_of};
+pub use places::place_of;
+pub use requests::Head;
+pub use targets::segments_of;
+pub use verbs::verb_of;
