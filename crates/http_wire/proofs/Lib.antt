@@ -1,0 +1,9 @@
+pub mod MessageLemmas
+pub mod FaultLemmas
+pub mod StreamLemmas
+pub mod BodyLemmas
+pub mod FrameLemmas
+pub mod ReplyLemmas
+pub mod SplitsLemmas
+pub mod RoomLemmas
+pub mod FieldLemmas

@@ -1,0 +1,10 @@
+pub mod Fields
+pub mod Held
+pub mod Room
+pub mod Message
+pub mod Faults
+pub mod Bodies
+pub mod Frames
+pub mod Replies
+pub mod Splits
+pub mod Requests

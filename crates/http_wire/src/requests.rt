@@ -1,0 +1,158 @@
+ghost use Rattle.std.specs.Prelude.{◌≡◌, ℕ, ◌+◌, ◌-◌, ◌≤◌, List, IsErr, IsSome, IfOk, IfSome, IfNone, IsSomeAnd, OnErr, length};
+ghost use Rattle.std.specs.Io.KnownBytes.{IsAtEnd, prepend_known};
+ghost use Rattle.httparse.specs.Grammar.{RequestHead};
+ghost use Rattle.httparse.specs.Spans.{IsRequestAt, IsRequestWithin};
+ghost use Rattle.http_routes.specs.declared.requests.Head.{Head as Said};
+ghost use Rattle.http_routes.specs.Bodies.{body_in};
+ghost use Rattle.http_routes.specs.Requests as routes;
+ghost use Rattle.http_wire.specs.Bodies.{IsBody};
+ghost use Rattle.http_wire.specs.Faults.{OnNotAMessage, OnReadFault, NoneBeginsIn, HasReadCause};
+ghost use Rattle.http_wire.specs.Frames.{IsFramed};
+ghost use Rattle.http_wire.specs.Message.{Message, print_message, BeginsNone, NoneBegins, last_place};
+ghost use Rattle.http_wire.specs.Requests.{request_of, callers_in, versions_in, IsRead};
+ghost use Rattle.http_wire.specs.Room.{stream};
+ghost use Rattle.http_wire.specs.Splits.{Takes};
+
+use crate::bodies::KeptBody;
+use crate::faults::WireFault;
+use crate::fields::value_named;
+use crate::frames::{Frame, begin_message, end_message};
+use crate::heads::MOST_HEADERS;
+use crate::room::Room;
+use doc_tree::NoMemory;
+use http_routes::{Head, body_of};
+use httparse::spans::{EMPTY_HEADER_SPAN, HeaderSpan, RequestSpans};
+use org_machine::{Body, Place, Request, Verb};
+use outside_core::Source;
+use std::alloc::Global;
+
+/// Reads the next message of a stream to its end, as the request that it spells. `None` is the end
+/// of the stream, between two messages.
+///
+/// A request whose parts or body find no memory is read to its end all the same, and has the place
+/// `NoMemory`. [`WireFault::ReadFault`] comes only where the source counted a fault, and
+/// [`WireFault::NotAMessage`] exactly where bytes are left and begin no whole message; behind either
+/// the stream can't be read on.
+pub fn read_message<S: Source>(
+    alloc: Global,
+    source: &mut S,
+    room: &mut Room,
+) -> Result<Option<Request>, WireFault>
+    ensures message { IfOk result (λ o. IfSome o (λ read. (m : Message) × IsRead read (request_of m)
+        × Takes room.old.place (stream room.old (S.left source.old)) (stream room.new (S.left source.new)) m
+        × (room.new.place ≡ room.old.place + length (print_message m)))) }
+    ensures end { IfOk result (λ o. IfNone o (IsAtEnd (stream room.old (S.left source.old)) × IsAtEnd (S.left source.new))) }
+    ensures none { OnNotAMessage result (λ place. (place ≡ room.old.place) × NoneBeginsIn place (stream room.old (S.left source.old))) }
+    ensures exactly { IsSomeAnd (stream room.old (S.left source.old)) (NoneBegins room.old.place) → IsErr result }
+    ensures partial { OnReadFault result ((taken : List ℕ) × BeginsNone (last_place - room.old.place) taken
+        × (stream room.old (S.left source.old) ≡ prepend_known taken (S.left source.new))) }
+    ensures aside { S.aside source.new ≡ S.aside source.old }
+    ensures cause { HasReadCause (S.faults source.old) (S.faults source.new) result }
+{
+    let mut headers = [EMPTY_HEADER_SPAN; MOST_HEADERS];
+    match begin_message(room, source, &mut headers)? {
+        Some(frame) => Ok(Some(read_framed(alloc, source, room, &headers, frame)?)),
+        None => Ok(None),
+    }
+}
+
+// Reads the message whose head the room holds.
+fn read_framed<S: Source>(
+    alloc: Global,
+    source: &mut S,
+    room: &mut Room,
+    headers: &[HeaderSpan],
+    frame: Frame,
+) -> Result<Request, WireFault>
+    requires head { (head : RequestHead) × IsRequestAt room.old.held headers.now frame.spans head × IsFramed room.old.place head frame.size }
+    requires within { IsRequestWithin room.old.held headers.now frame.spans }
+    ensures message { IfOk result (λ read. (m : Message) × IsRead read (request_of m)
+        × Takes room.old.place (stream room.old (S.left source.old)) (stream room.new (S.left source.new)) m
+        × (room.new.place ≡ room.old.place + length (print_message m))) }
+    ensures none { OnNotAMessage result (λ place. (place ≡ room.old.place) × NoneBeginsIn place (stream room.old (S.left source.old))) }
+    ensures partial { OnReadFault result ((taken : List ℕ) × BeginsNone (last_place - room.old.place) taken
+        × (stream room.old (S.left source.old) ≡ prepend_known taken (S.left source.new))) }
+    ensures aside { S.aside source.new ≡ S.aside source.old }
+    ensures cause { HasReadCause (S.faults source.old) (S.faults source.new) result }
+{
+    let head = read_parts(alloc, room.held(), headers, frame.spans);
+    let body = end_message(alloc, room, source, frame.spans.len, frame.size)?;
+    Ok(request_from(alloc, head, body))
+}
+
+// What the head says of the request, copied out of the room, which the body may need.
+fn read_parts(
+    alloc: Global,
+    held: &[u8],
+    headers: &[HeaderSpan],
+    spans: RequestSpans,
+) -> Result<Head, NoMemory>
+    requires { IsRequestWithin held.now headers.now spans }
+    ensures { (head : RequestHead) → IsRequestAt held.now headers.now spans head
+        → IfOk result (λ said. said ≡ routes.head_in head.method head.target (callers_in head) (versions_in head)) }
+{
+    let headers = &headers[..spans.headers];
+    let caller = value_named(held, headers, b"x-ops-userid");
+    let version = value_named(held, headers, b"x-ops-server-api-version");
+    Head::read(
+        alloc,
+        spans.method.of(held),
+        spans.path.of(held),
+        caller,
+        version,
+    )
+}
+
+// The request of a head and a body, or one without a place where memory was wanting for either.
+fn request_from(alloc: Global, head: Result<Head, NoMemory>, body: KeptBody) -> Request
+    ensures { (said : Said) (bytes : List ℕ) → IfOk head (λ h. h ≡ said) → IsBody (length bytes) bytes body
+        → IsRead result (routes.request_of said (body_in said.verb bytes)) }
+{
+    match head {
+        Ok(head) => request_with(alloc, head, body),
+        Err(NoMemory) => lost(),
+    }
+}
+
+fn request_with(alloc: Global, head: Head, body: KeptBody) -> Request
+    ensures { (bytes : List ℕ) → IsBody (length bytes) bytes body
+        → IsRead result (routes.request_of head (body_in head.verb bytes)) }
+{
+    match parsed(alloc, head.verb(), body) {
+        Ok(body) => placed(alloc, head, body),
+        Err(NoMemory) => lost(),
+    }
+}
+
+fn placed(alloc: Global, head: Head, body: Body) -> Request
+    ensures { IsRead result (routes.request_of head body) }
+{
+    match head.with_body(alloc, body) {
+        Ok(request) => request,
+        Err(NoMemory) => lost(),
+    }
+}
+
+// The body as the verb wants it.
+fn parsed(alloc: Global, verb: Verb, body: KeptBody) -> Result<Body, NoMemory>
+    ensures { (bytes : List ℕ) → IsBody (length bytes) bytes body → IfOk result (λ b. b ≡ body_in verb bytes) }
+{
+    match body {
+        KeptBody::Whole(bytes) => body_of(alloc, verb, &bytes),
+        KeptBody::TooLong => Ok(Body::TooLong),
+        KeptBody::NoMemory => Err(NoMemory),
+    }
+}
+
+// A request whose parts found no memory.
+fn lost() -> Request
+    ensures { result.place ≡ Place.NoMemory }
+{
+    Request {
+        caller: None,
+        api: None,
+        verb: Verb::Other,
+        place: Place::NoMemory,
+        body: Body::Empty,
+    }
+}

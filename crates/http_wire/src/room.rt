@@ -1,0 +1,162 @@
+ghost use Rattle.std.specs.Prelude.{◌≡◌, ℕ, ◌+◌, ◌<◌, ◌≤◌, ◌++◌, List, [], MatchBool, IfOk, OnErr, vec_len, length, take, drop};
+ghost use Rattle.std.specs.Io.KnownBytes.{IsAtEnd, prepend_known};
+ghost use Rattle.outside_core.specs.Failed.{HasCause};
+ghost use Rattle.http_wire.specs.Faults.{OnNotAMessage, HasReadCause};
+ghost use Rattle.http_wire.specs.Room.{stream};
+
+use crate::faults::WireFault;
+use outside_core::{Failed, Source};
+use std::alloc::{AllocError, Global};
+use std::marker::Model;
+
+/// How many bytes a room holds: as many as a message's head may have.
+const CAPACITY: usize = 16_384;
+
+/// Room for the bytes that were read of a stream and not yet used.
+///
+/// A room is for one stream, from its first byte on. What it holds behind a message is the front of
+/// the next one. Contracts see it as the bytes held and their place in the stream.
+#[derive(Drop)]
+pub struct Room {
+    bytes: Vec<u8>,
+    start: usize,
+    count: usize,
+    place: u64,
+}
+
+impl Model for Room {
+    ghost use Rattle.std.specs.Prelude.{◌≡◌, ◌+◌, ◌≤◌, take, drop, vec_len};
+    ghost use Rattle.http_wire.specs.Held.{Held};
+
+    ghost Value = { Held };
+
+    ghost view = { λ r. record { held = take r.count (drop r.start r.bytes.items); place = r.place } };
+
+    ghost invariant = { λ r. (vec_len r.bytes ≡ 16384) × (r.start + r.count ≤ 16384) × (r.place ≤ 1099511627776) };
+}
+
+impl Room {
+    /// Room for a stream of which nothing was read.
+    pub fn take(alloc: Global) -> Result<Self, AllocError>
+        ensures { IfOk result (λ room. room ≡ record { held = []; place = 0 }) }
+    {
+        Ok(Room {
+            bytes: vec![in alloc; 0; CAPACITY]?,
+            start: 0,
+            count: 0,
+            place: 0,
+        })
+    }
+
+    /// The bytes that were read and not yet used.
+    pub(crate) fn held(&self) -> &[u8]
+        ensures bytes { result.now ≡ self.now.held }
+        ensures fits { length result.now ≤ 16384 }
+    {
+        &self.bytes[self.start..self.start + self.count]
+    }
+
+    /// Whether it holds as much as it can.
+    pub(crate) fn is_full(&self) -> bool
+        ensures { MatchBool result (length self.now.held ≡ 16384) (length self.now.held < 16384) }
+    {
+        self.count == CAPACITY
+    }
+
+    /// The fault that no message begins at the room's place.
+    pub(crate) fn no_message(&self) -> WireFault
+        ensures { result ≡ WireFault.NotAMessage self.now.place }
+    {
+        WireFault::NotAMessage { place: self.place }
+    }
+
+    /// The place in the stream of the message that is read.
+    pub(crate) fn place(&self) -> u64
+        ensures place { result ≡ self.now.place }
+        ensures early { result ≤ 1099511627776 }
+    {
+        self.place
+    }
+
+    /// Goes on to the message that begins so many bytes later.
+    pub(crate) fn advance(&mut self, count: u64)
+        requires { self.old.place + count ≤ 1099511627776 }
+        ensures { self.new ≡ record self.old { place = self.old.place + count } }
+    {
+        self.place += count;
+    }
+
+    /// Reads once, behind what is held.
+    pub(crate) fn fill<S: Source>(&mut self, source: &mut S) -> Result<usize, Failed>
+        requires { length self.old.held < 16384 }
+        ensures kept { stream self.new (S.left source.new) ≡ stream self.old (S.left source.old) }
+        ensures more { IfOk result (λ count. length self.new.held ≡ length self.old.held + count) }
+        ensures fits { length self.new.held ≤ 16384 }
+        ensures end { IfOk result (λ count. count ≡ 0 → IsAtEnd (S.left source.new)) }
+        ensures failed { OnErr result (self.new.held ≡ self.old.held) }
+        ensures place { self.new.place ≡ self.old.place }
+        ensures aside { S.aside source.new ≡ S.aside source.old }
+        ensures cause { HasCause (S.faults source.old) (S.faults source.new) result }
+    {
+        self.start = make_room(&mut self.bytes, self.start, self.count);
+        let count = read_behind(&mut self.bytes, self.start + self.count, source)?;
+        self.count += count;
+        Ok(count)
+    }
+
+    /// Whether the stream has more bytes, of which it then holds some.
+    pub(crate) fn has_more<S: Source>(&mut self, source: &mut S) -> Result<bool, WireFault>
+        ensures kept { stream self.new (S.left source.new) ≡ stream self.old (S.left source.old) }
+        ensures more { IfOk result (λ more. MatchBool more (0 < length self.new.held) (IsAtEnd (stream self.old (S.left source.old)))) }
+        ensures failed { OnErr result (self.new.held ≡ []) }
+        ensures never { OnNotAMessage result (λ _. ⊥) }
+        ensures place { self.new.place ≡ self.old.place }
+        ensures aside { S.aside source.new ≡ S.aside source.old }
+        ensures cause { HasReadCause (S.faults source.old) (S.faults source.new) result }
+    {
+        if !self.held().is_empty() {
+            return Ok(true);
+        }
+        let count = self.fill(source)?;
+        Ok(count > 0)
+    }
+
+    /// Lets go of bytes at the front.
+    pub(crate) fn drop_front(&mut self, count: usize)
+        requires { count ≤ length self.old.held }
+        ensures { self.new ≡ record self.old { held = drop count self.old.held } }
+    {
+        self.start += count;
+        self.count -= count;
+    }
+}
+
+// Where the bytes in use begin once they have room behind them: at the front where they had none.
+fn make_room(bytes: &mut Vec<u8>, start: usize, count: usize) -> usize
+    requires within { start + count ≤ vec_len bytes.old }
+    requires not_full { count < vec_len bytes.old }
+    ensures room { result + count < vec_len bytes.new }
+    ensures size { vec_len bytes.new ≡ vec_len bytes.old }
+    ensures kept { take count (drop result bytes.new.items) ≡ take count (drop start bytes.old.items) }
+{
+    if start + count < bytes.len() {
+        return start;
+    }
+    bytes.copy_within(start..start + count, 0);
+    0
+}
+
+// Reads once, into the bytes from `at` on.
+fn read_behind<S: Source>(bytes: &mut Vec<u8>, at: usize, source: &mut S) -> Result<usize, Failed>
+    requires { at < vec_len bytes.old }
+    ensures size { vec_len bytes.new ≡ vec_len bytes.old }
+    ensures front { take at bytes.new.items ≡ take at bytes.old.items }
+    ensures within { IfOk result (λ count. at + count ≤ vec_len bytes.new) }
+    ensures bytes { IfOk result (λ count. S.left source.old ≡ prepend_known (take count (drop at bytes.new.items)) (S.left source.new)) }
+    ensures end { IfOk result (λ count. count ≡ 0 → IsAtEnd (S.left source.new)) }
+    ensures failed { OnErr result (S.left source.new ≡ S.left source.old) }
+    ensures aside { S.aside source.new ≡ S.aside source.old }
+    ensures cause { HasCause (S.faults source.old) (S.faults source.new) result }
+{
+    source.read(&mut bytes[at..])
+}

@@ -1,0 +1,268 @@
+// Messages in pieces, what is no message, and the bytes of replies.
+use super::*;
+use doc_tree::Bytes;
+use org_machine::{Body, NodesRoute, Place, Reply, Request, Route, Verb};
+use outside_core::{Buffered, MemSink, MemSource};
+use std::alloc::{AllocError, Global};
+use std::test::Fail;
+
+const TWO: &str =
+    "\r\n\nPOST /organizations/acme/nodes?x=1 HTTP/1.1\r\nX-OPS-userid: \t pivotal \r\ncontent-LENGTH: 002\r\n\r\n{}GET /organizations/acme/nodes/web1 HTTP/1.0\nX-Ops-Server-API-Version: 1\n\n";
+
+fn source(
+    alloc: Global,
+    text: &[u8],
+    piece: usize,
+    failing: Vec<u64>,
+) -> Result<MemSource, AllocError> {
+    Ok(MemSource::new(text.to_vec(alloc)?, piece.max(1), failing))
+}
+
+fn place(request: &Request) -> (&str, &str) {
+    match &request.place {
+        Place::Of { org, route } => match route {
+            Route::Nodes(NodesRoute::All) => (org.as_str(), "nodes"),
+            Route::Nodes(NodesRoute::One(name)) => (org.as_str(), name.as_str()),
+            Route::Organisation(_) => (org.as_str(), ""),
+        },
+        _ => ("", ""),
+    }
+}
+
+fn caller(request: &Request) -> Option<&str> {
+    request.caller.as_ref().map(|name| name.as_str())
+}
+
+#[test]
+fn requests_come_in_pieces_of_any_size(rt: HostRuntime) -> Result<(), Fail> {
+    let alloc = rt.alloc();
+    for piece in [1, 2, 7, 1000] {
+        let mut input = source(alloc, TWO.as_bytes(), piece, Vec::new(alloc))?;
+        let mut room = Room::take(alloc)?;
+        let first = read_message(alloc, &mut input, &mut room)?.ok_or("no first message")?;
+        assert!(rt; first.verb == Verb::Post);
+        assert_eq!(rt; place(&first), ("acme", "nodes"));
+        assert_eq!(rt; caller(&first), Some("pivotal"));
+        assert!(rt; matches!(first.body, Body::Doc(_)));
+        let second = read_message(alloc, &mut input, &mut room)?.ok_or("no second message")?;
+        assert!(rt; second.verb == Verb::Get);
+        assert_eq!(rt; place(&second), ("acme", "web1"));
+        assert_eq!(rt; caller(&second), None);
+        assert_eq!(rt; second.api, Some(1));
+        assert!(rt; read_message(alloc, &mut input, &mut room)?.is_none());
+    }
+    Ok(())
+}
+
+// The place at which no message begins, behind those that do.
+fn no_message(alloc: Global, text: &[u8], piece: usize) -> Result<Option<u64>, AllocError> {
+    let mut input = source(alloc, text, piece, Vec::new(alloc))?;
+    let mut room = Room::take(alloc)?;
+    for _ in 0..100 {
+        match read_message(alloc, &mut input, &mut room) {
+            Ok(Some(_)) => {}
+            Err(WireFault::NotAMessage { place }) => return Ok(Some(place)),
+            _ => return Ok(None),
+        }
+    }
+    Ok(None)
+}
+
+#[test]
+fn the_place_of_what_is_no_message_is_told(rt: HostRuntime) -> Result<(), Fail> {
+    let cases = [
+        ("GET / HTTP/1.1\r\n\r\n", None),
+        (
+            "GET / HTTP/1.1\r\nContent-Length: 00000000000000000000\r\n\r\n",
+            None,
+        ),
+        (
+            "GET / HTTP/1.1\r\nTransfer-Encoding: chunked\r\n\r\n0\r\n\r\n",
+            Some(0),
+        ),
+        (
+            "GET / HTTP/1.1\r\n\r\nGET / HTTP/1.1\r\nTRANSFER-encoding:\r\n\r\n",
+            Some(18),
+        ),
+        (
+            "GET / HTTP/1.1\r\nContent-Length: 1\r\ncontent-length: 1\r\n\r\nx",
+            Some(0),
+        ),
+        ("GET / HTTP/1.1\r\nContent-Length: +1\r\n\r\nx", Some(0)),
+        ("GET / HTTP/1.1\r\nContent-Length:\r\n\r\n", Some(0)),
+        (
+            "GET / HTTP/1.1\r\nContent-Length: 000000000000000000001\r\n\r\nx",
+            Some(0),
+        ),
+        (
+            "GET / HTTP/1.1\r\nContent-Length: 67108865\r\n\r\n",
+            Some(0),
+        ),
+        (
+            "GET / HTTP/1.1\r\n\r\nGET / HTTP/1.1\r\nContent-Length: 2\r\n\r\nx",
+            Some(18),
+        ),
+        ("GET / HTTP/1.1\r\n\r\nGET / HTTP/1.1\r\n", Some(18)),
+        ("GET / HTTP/1.1\r\n\r\n\r\n\r\n", Some(18)),
+        ("GET / HTTP/2.0\r\n\r\n", Some(0)),
+        ("GET /a b HTTP/1.1\r\n\r\n", Some(0)),
+        ("hello", Some(0)),
+    ];
+    for (text, expected) in cases {
+        for piece in [1, 1000] {
+            let place = no_message(rt.alloc(), text.as_bytes(), piece)?;
+            assert_eq!(rt; place, expected, "at {text}");
+        }
+    }
+    Ok(())
+}
+
+// A message whose head has this many bytes, at least 23.
+fn head_of_size(alloc: Global, size: usize) -> Result<Vec<u8>, AllocError> {
+    let mut text = b"GET / HTTP/1.1\r\nA: ".to_vec(alloc)?;
+    text.extend_from_slice(&vec![in alloc; b'a'; size.saturating_sub(23)]?)?;
+    text.extend_from_slice(b"\r\n\r\n")?;
+    Ok(text)
+}
+
+#[test]
+fn a_head_has_at_most_16384_bytes(rt: HostRuntime) -> Result<(), Fail> {
+    let alloc = rt.alloc();
+    for (size, expected) in [(16384, None), (16385, Some(0))] {
+        let text = head_of_size(alloc, size)?;
+        assert_eq!(rt; text.len(), size);
+        assert_eq!(rt; no_message(alloc, &text, 1000)?, expected);
+    }
+    Ok(())
+}
+
+// A message with this many headers.
+fn headers_of_count(alloc: Global, count: usize) -> Result<Vec<u8>, AllocError> {
+    let mut text = b"GET / HTTP/1.1\r\n".to_vec(alloc)?;
+    for _ in 0..count {
+        text.extend_from_slice(b"a:b\r\n")?;
+    }
+    text.extend_from_slice(b"\r\n")?;
+    Ok(text)
+}
+
+#[test]
+fn a_head_has_at_most_64_headers(rt: HostRuntime) -> Result<(), Fail> {
+    let alloc = rt.alloc();
+    for (count, expected) in [(64, None), (65, Some(0))] {
+        let text = headers_of_count(alloc, count)?;
+        assert_eq!(rt; no_message(alloc, &text, 1000)?, expected);
+    }
+    Ok(())
+}
+
+#[test]
+fn a_read_that_fails_is_a_fault_of_reading(rt: HostRuntime) -> Result<(), Fail> {
+    let alloc = rt.alloc();
+    let text = b"PUT / HTTP/1.1\r\nContent-Length: 9\r\n\r\n123456789";
+    for failing in [1, 3, 40] {
+        let mut input = source(alloc, text, 1, vec![in alloc; failing]?)?;
+        let mut room = Room::take(alloc)?;
+        let read = read_message(alloc, &mut input, &mut room);
+        assert!(rt; matches!(read, Err(WireFault::ReadFault)));
+    }
+    Ok(())
+}
+
+// A POST with a body of this many bytes, and then a GET.
+fn body_of_size(alloc: Global, length: &[u8], size: usize) -> Result<Vec<u8>, AllocError> {
+    let mut text = b"POST / HTTP/1.1\r\nContent-Length: ".to_vec(alloc)?;
+    text.extend_from_slice(length)?;
+    text.extend_from_slice(b"\r\n\r\n")?;
+    text.extend_from_slice(&vec![in alloc; b' '; size]?)?;
+    text.extend_from_slice(b"GET / HTTP/1.1\r\n\r\n")?;
+    Ok(text)
+}
+
+#[test]
+fn a_body_is_kept_up_to_4194304_bytes(rt: HostRuntime) -> Result<(), Fail> {
+    let alloc = rt.alloc();
+    for (length, size, is_kept) in [(b"4194304", 4194304, true), (b"4194305", 4194305, false)] {
+        let text = body_of_size(alloc, length, size)?;
+        let mut input = MemSource::new(text, 100000, Vec::new(alloc));
+        let mut room = Room::take(alloc)?;
+        let first = read_message(alloc, &mut input, &mut room)?.ok_or("no first message")?;
+        assert!(rt; matches!(first.body, Body::Bad(_)) == is_kept);
+        assert!(rt; first.body.is_too_long() != is_kept);
+        let second = read_message(alloc, &mut input, &mut room)?.ok_or("no second message")?;
+        assert!(rt; second.verb == Verb::Get);
+    }
+    Ok(())
+}
+
+#[test]
+fn a_room_tells_whether_it_holds_the_next_message(rt: HostRuntime) -> Result<(), Fail> {
+    let alloc = rt.alloc();
+    let mut input = source(alloc, TWO.as_bytes(), 1000, Vec::new(alloc))?;
+    let mut room = Room::take(alloc)?;
+    assert!(rt; !room.holds_message());
+    let first = read_message(alloc, &mut input, &mut room)?;
+    assert!(rt; first.is_some());
+    assert!(rt; room.holds_message());
+    let second = read_message(alloc, &mut input, &mut room)?;
+    assert!(rt; second.is_some());
+    assert!(rt; !room.holds_message());
+    Ok(())
+}
+
+const CREATED: &[u8] =
+    b"HTTP/1.1 201 Created\r\nContent-Type: application/json\r\nContent-Length: 29\r\n\r\n{\"uri\":\"/organizations/acme\"}";
+
+#[test]
+fn a_reply_has_its_status_line_two_headers_and_its_body(rt: HostRuntime) -> Result<(), Fail> {
+    let alloc = rt.alloc();
+    let reply = Reply {
+        status: 201,
+        octets: false,
+        body: Bytes::constant(b"{\"uri\":\"/organizations/acme\"}"),
+    };
+    let mut output = MemSink::new(alloc, Vec::new(alloc), 200)?;
+    assert!(rt; write_reply(&mut output, &reply).is_ok());
+    assert_eq!(rt; output.bytes(), CREATED);
+    let mut buffered = MemSink::new(alloc, Vec::new(alloc), 200)?;
+    let mut buffer = Buffered::take(alloc, 100)?;
+    assert!(rt; buffer_reply(&mut buffer, &mut buffered, &reply).is_ok());
+    assert!(rt; buffer.empty(&mut buffered).is_ok());
+    assert_eq!(rt; buffered.bytes(), CREATED);
+    Ok(())
+}
+
+#[test]
+fn each_status_has_its_phrase(rt: HostRuntime) -> Result<(), Fail> {
+    let cases: [(u16, &str); 15] = [
+        (200, "HTTP/1.1 200 OK\r\n"),
+        (201, "HTTP/1.1 201 Created\r\n"),
+        (400, "HTTP/1.1 400 Bad Request\r\n"),
+        (401, "HTTP/1.1 401 Unauthorized\r\n"),
+        (403, "HTTP/1.1 403 Forbidden\r\n"),
+        (404, "HTTP/1.1 404 Not Found\r\n"),
+        (405, "HTTP/1.1 405 Method Not Allowed\r\n"),
+        (406, "HTTP/1.1 406 Not Acceptable\r\n"),
+        (409, "HTTP/1.1 409 Conflict\r\n"),
+        (412, "HTTP/1.1 412 Precondition Failed\r\n"),
+        (413, "HTTP/1.1 413 Payload Too Large\r\n"),
+        (500, "HTTP/1.1 500 Internal Server Error\r\n"),
+        (501, "HTTP/1.1 501 Not Implemented\r\n"),
+        (503, "HTTP/1.1 503 Service Unavailable\r\n"),
+        (299, "HTTP/1.1 299 \r\n"),
+    ];
+    for (status, line) in cases {
+        let reply = Reply {
+            status,
+            octets: true,
+            body: Bytes::constant(b"x"),
+        };
+        let mut output = MemSink::new(rt.alloc(), Vec::new(rt.alloc()), 200)?;
+        assert!(rt; write_reply(&mut output, &reply).is_ok());
+        let rest = b"Content-Type: application/octet-stream\r\nContent-Length: 1\r\n\r\nx";
+        assert!(rt; output.bytes().starts_with(line.as_bytes()));
+        assert!(rt; output.bytes().ends_with(rest));
+        assert_eq!(rt; output.bytes().len(), line.len() + rest.len());
+    }
+    Ok(())
+}
