@@ -1,0 +1,3 @@
+mod ShardLemmas
+mod TurnLemmas
+mod EndingLemmas

@@ -1,0 +1,124 @@
+-- What a change of one organisation does to the states that a shard keeps.
+use Rattle.std.proofs.Common.{◌≡◌, ◌≢◌, ℕ, zero, suc, ◌<◌, inl, inr, ◌⊎◌, Bool, true, false, cond, List, [], ◌∷◌, length, set, get_or, Option, Some, None, sym, ap, refl, ◌∙◌, arith, length-set}
+use Rattle.std.specs.List.{slice_get}
+use Rattle.std.specs.Option.{option_map_or}
+use Rattle.std.proofs.lemmas.Bool.{cases_eq, false_from_ne_true}
+use Rattle.std.proofs.lemmas.Option.{slice_get_read}
+use Rattle.chefsite.specs.declared.shards.Shard.{Shard}
+use Rattle.chefsite.specs.Shards.{states_in, shard_of, site_states}
+use Rattle.std.specs.Str.{bytes_eq}
+use Rattle.std.specs.Cmp.Lexicographic.{bytes_decides, nat_list_eq_equiv}
+use Rattle.org_machine.specs.declared.replies.Reply.{Reply}
+use Rattle.org_machine.specs.declared.requests.Request.{Request}
+use Rattle.org_machine.specs.Requests.{org_of, has_name}
+use Rattle.org_machine.specs.States.{State, Kept, state_in}
+use Rattle.org_machine.specs.Marks.{mark_of, after}
+use Rattle.org_machine.specs.Serving.{state_then}
+use Rattle.chefsite.specs.Organisations.{KeptOrganisations, kept_at, state_at}
+
+-- what a request of this organisation does to the state under a name
+pub state_then-known : (org name : List ℕ) (request : Request) (reply : Reply) (state : State) → org_of request ≡ Some org
+    → state_then name request reply state ≡ cond (bytes_eq org name) (after (mark_of reply) request state) state
+state_then-known org name request reply state is_org =
+    ap (λ b. cond b (after (mark_of reply) request state) state) (ap (has_name name) is_org ∙ nat_list_eq_equiv.symm name org)
+
+-- under one name: its own organisation is as the request leaves it, any other as before
+written_under : (own : Bool) (before now : Option Kept) (old new : Kept) (request : Request) (reply : Reply)
+    → now ≡ cond own (Some new) before
+    → (own ≡ true → before ≡ Some old)
+    → state_in new ≡ after (mark_of reply) request (state_in old)
+    → state_at now ≡ cond own (after (mark_of reply) request (state_at before)) (state_at before)
+written_under true before now old new request reply put had step =
+    ap state_at put ∙ step ∙ ap (λ o. after (mark_of reply) request (state_at o)) (sym (had refl))
+written_under false before now old new request reply put had step = ap state_at put
+
+-- an organisation that is there is written back
+pub states-written : (before now : KeptOrganisations) (org : List ℕ) (old new : Kept) (request : Request) (reply : Reply)
+    → ((name : List ℕ) → kept_at now name ≡ cond (bytes_eq org name) (Some new) (kept_at before name))
+    → kept_at before org ≡ Some old
+    → org_of request ≡ Some org
+    → state_in new ≡ after (mark_of reply) request (state_in old)
+    → (name : List ℕ) → state_at (kept_at now name) ≡ state_then name request reply (state_at (kept_at before name))
+states-written before now org old new request reply put had is_org step name =
+    written_under (bytes_eq org name) (kept_at before name) (kept_at now name) old new request reply (put name)
+    (λ same. ap (kept_at before) (sym ((bytes_decides org name).0 same)) ∙ had) step
+    ∙ sym (state_then-known org name request reply (state_at (kept_at before name)) is_org)
+
+-- under one name: an organisation that isn't there stays away
+absent_under : (own : Bool) (before : State) (request : Request) (reply : Reply)
+    → (own ≡ true → before ≡ after (mark_of reply) request before)
+    → before ≡ cond own (after (mark_of reply) request before) before
+absent_under true before request reply stays = stays refl
+absent_under false before request reply stays = refl
+
+-- an organisation that isn't there, and isn't afterwards, changes nothing
+pub states-absent : (before : KeptOrganisations) (org : List ℕ) (request : Request) (reply : Reply)
+    → state_at (kept_at before org) ≡ None
+    → org_of request ≡ Some org
+    → after (mark_of reply) request None ≡ None
+    → (name : List ℕ) → state_at (kept_at before name) ≡ state_then name request reply (state_at (kept_at before name))
+states-absent before org request reply none is_org stays name =
+    absent_under (bytes_eq org name) (state_at (kept_at before name)) request reply
+    (λ same.
+    let here : state_at (kept_at before name) ≡ None = ap (λ n. state_at (kept_at before n)) (sym ((bytes_decides org name).0 same)) ∙ none in
+    here ∙ sym stays ∙ ap (after (mark_of reply) request) (sym here))
+    ∙ sym (state_then-known org name request reply (state_at (kept_at before name)) is_org)
+
+-- a request of one organisation is of no other
+state_then-other : (org name : List ℕ) (request : Request) (reply : Reply) (state : State) → org_of request ≡ Some org → org ≢ name
+    → state_then name request reply state ≡ state
+state_then-other org name request reply state is_org other =
+    state_then-known org name request reply state is_org
+    ∙ ap (λ b. cond b (after (mark_of reply) request state) state)
+    (false_from_ne_true (bytes_eq org name) (λ same. other ((bytes_decides org name).0 same)))
+
+-- the shard at a place, after another was written
+get-set_other : (shards : List Shard) (number place : ℕ) (new : Shard) → place ≢ number → slice_get (set shards number new) place ≡ slice_get shards place
+get-set_other [] number place new other = refl
+get-set_other (s ∷ shards) zero zero new other = absurd (other refl)
+get-set_other (s ∷ shards) zero (suc place) new other = refl
+get-set_other (s ∷ shards) (suc number) zero new other = refl
+get-set_other (s ∷ shards) (suc number) (suc place) new other = get-set_other shards number place new (λ same. other (ap suc same))
+
+-- the shard at a place, after it was written
+get-set_same : (shards : List Shard) (number : ℕ) (new : Shard) → number < length shards → slice_get (set shards number new) number ≡ Some new
+get-set_same [] number new within = absurd (omega arith)
+get-set_same (s ∷ shards) zero new within = refl
+get-set_same (s ∷ shards) (suc number) new within = get-set_same shards number new (omega arith)
+
+-- the state that the shard at a place keeps under a name
+abbrev kept_by : List ℕ → Option Shard → State
+kept_by name shard = option_map_or (λ s. states_in s name) shard None
+
+-- the same place, or another one
+site_under : (shards : List Shard) (number place : ℕ) (old new : Shard) (org name : List ℕ) (request : Request) (reply : Reply)
+    → (number ≡ place) ⊎ (number ≡ place → ⊥)
+    → number < length shards
+    → old ≡ get_or shards number old
+    → (states_in new name ≡ state_then name request reply (states_in old name))
+    → ((number ≡ place → ⊥) → state_then name request reply (kept_by name (slice_get shards place)) ≡ kept_by name (slice_get shards place))
+    → kept_by name (slice_get (set shards number new) place) ≡ state_then name request reply (kept_by name (slice_get shards place))
+site_under shards number place old new org name request reply (inl same) within had step stays =
+    let there : slice_get shards number ≡ Some old = slice_get_read shards (length shards) number old refl within had in
+    ap (λ k. kept_by name (slice_get (set shards number new) k)) (sym same)
+    ∙ ap (kept_by name) (get-set_same shards number new within)
+    ∙ step
+    ∙ ap (λ o. state_then name request reply (kept_by name o)) (sym there)
+    ∙ ap (λ k. state_then name request reply (kept_by name (slice_get shards k))) same
+site_under shards number place old new org name request reply (inr other) within had step stays =
+    ap (kept_by name) (get-set_other shards number place new (λ same. other (sym same))) ∙ sym (stays other)
+
+-- one shard of a site is written back after a request of an organisation that belongs to it
+pub site-written : (shards : List Shard) (number : ℕ) (old new : Shard) (org : List ℕ) (request : Request) (reply : Reply)
+    → number ≡ shard_of org (length shards)
+    → number < length shards
+    → old ≡ get_or shards number old
+    → org_of request ≡ Some org
+    → ((name : List ℕ) → states_in new name ≡ state_then name request reply (states_in old name))
+    → (name : List ℕ) → site_states (set shards number new) name ≡ state_then name request reply (site_states shards name)
+site-written shards number old new org request reply belongs within had is_org step name =
+    let place = shard_of name (length shards) in
+    ap (λ n. kept_by name (slice_get (set shards number new) (shard_of name n))) (length-set shards number new)
+    ∙ site_under shards number place old new org name request reply (cases_eq number place) within had (step name)
+    (λ other. state_then-other org name request reply (site_states shards name) is_org
+    (λ same. other (belongs ∙ ap (λ n. shard_of n (length shards)) same)))

@@ -1,0 +1,37 @@
+-- The loop begins with nothing answered, and goes on by one message a turn.
+use Rattle.std.proofs.Common.{◌<◌, length, arith, rules}
+use Rattle.http_wire.specs.Message.{print_message}
+use Rattle.chefsite.proofs.TurnLemmas.{at_first, after_emptying, one_turn, last_turn}
+use Rattle.http_wire.proofs.StreamLemmas.{print_message-some}
+use Rattle.chefsite.proofs.answering.answer_all.Goals as goal
+
+pub messages-init : goal.messages-init
+messages-init g c = record {
+  so_far = at_first _ _ _ _ _ c.requires.room c.requires.buffer c.requires.nobody;
+  site = c.requires.site;
+  read = omega arith;
+  written = omega arith;
+}
+
+pub messages-smaller : goal.messages-smaller
+messages-smaller g c =
+    let turn = c.in-Ok-answer_next.ensures.turn in
+    let bytes : 0 < length (print_message turn.0) = print_message-some turn.0 in
+    omega (arith, turn.2.takes.ends, turn.3, bytes)
+
+pub messages-preserved : goal.messages-preserved
+messages-preserved g c = record {
+  so_far =
+      one_turn _ _ _ _ _ _ _ _ _ _ _ _
+      (after_emptying _ _ _ _ _ _ _ _ _ c.messages.invariant.so_far c.in-Ok.ensures.ok)
+      c.in-Ok-answer_next.ensures.turn;
+  site = search rules;
+  read = omega (arith, c.messages.invariant.read, c.in-Ok-answer_next.ensures.read);
+  written = omega (arith, c.messages.invariant.written, c.in-Ok.ensures.cause.later, c.in-Ok-answer_next.ensures.written);
+}
+
+pub returns-in-Err-answer_next-clause-end : goal.returns-in-Err-answer_next-clause-end
+returns-in-Err-answer_next-clause-end g c =
+    last_turn c.in-Err-answer_next.end _ _ _ _ _ _ _ _ _ _
+    (after_emptying _ _ _ _ _ _ _ _ _ c.messages.invariant.so_far c.in-Ok.ensures.ok)
+    c.in-Err-answer_next.ensures.end

@@ -1,0 +1,13 @@
+-- The numbers of the statuses.
+use Rattle.std.specs.Prelude.{ℕ}
+use Rattle.chefsite.specs.declared.statuses.Status.{Status}
+use Rattle.chefsite.specs.declared.statuses.Status.TheVariants.{Done, Usage, ReadFault, WriteFault, NoMemory, NotAMessage}
+
+-- the number of a status
+abbrev pub code : Status → ℕ
+code Done = 0
+code Usage = 2
+code ReadFault = 3
+code WriteFault = 4
+code NoMemory = 7
+code NotAMessage = 8

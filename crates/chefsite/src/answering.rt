@@ -1,0 +1,131 @@
+//! The loop that answers a stream of messages, one after another.
+
+ghost use Rattle.std.specs.Prelude.{◌≡◌, ◌≤◌, ◌++◌, ℕ, [], List, None, OnOk, OnErr, IfErr, MatchResult, length};
+ghost use Rattle.outside_core.specs.Failed.{HasCause};
+ghost use Rattle.outside_core.specs.Sink.{GainsPart, PassesOn};
+ghost use Rattle.org_machine.specs.declared.replies.Reply as reply;
+ghost use Rattle.org_machine.specs.declared.requests.Request as asked;
+ghost use Rattle.org_machine.specs.Serving.{Serves};
+ghost use Rattle.http_wire.specs.Requests.{IsRead};
+ghost use Rattle.http_wire.specs.Replies.{reply_text};
+ghost use Rattle.http_wire.specs.Room.{stream};
+ghost use Rattle.chefsite.specs.Shards.{site_states, IsSite};
+ghost use Rattle.chefsite.specs.Turns.{TakesTurn, EndsTurn, EndsStream, HasFaultCause};
+
+use crate::shards::Shard;
+use crate::site;
+use http_wire::{Room, WireFault, buffer_reply, read_message};
+use org_machine::Request;
+use outside_core::{Buffered, Failed, Sink, Source};
+use std::alloc::Global;
+
+/// Why no further message is answered.
+#[derive(Clone, Copy, Debug, PartialEq, Eq)]
+pub enum End {
+    /// The input ended between messages.
+    Closed,
+    /// A read failed.
+    ReadFault,
+    /// A write failed.
+    WriteFault,
+    /// What follows is no message.
+    NotAMessage,
+}
+
+/// Answers the messages of a stream until no further one can be answered. Replies wait in the
+/// buffer, and go out before a read that may wait for a peer.
+pub(crate) fn answer_all<I: Source, U: Sink>(
+    alloc: Global,
+    input: &mut I,
+    output: &mut U,
+    buffer: &mut Buffered,
+    room: &mut Room,
+    shards: &mut [Shard],
+) -> End
+    requires site { IsSite shards.old }
+    requires room { room.old ≡ record { held = []; place = 0 } }
+    requires buffer { buffer.old.waiting ≡ [] }
+    requires nobody { (name : List ℕ) → site_states shards.old name ≡ None }
+    ensures end { EndsStream result (I.left input.old) (I.left input.new) (U.gained output.old) (U.gained output.new) buffer.new.waiting }
+    ensures cause { HasFaultCause result (I.faults input.old) (I.faults input.new) (U.faults output.old) (U.faults output.new) }
+    ensures read { I.faults input.old ≤ I.faults input.new }
+    ensures written { U.faults output.old ≤ U.faults output.new }
+{
+    'messages: loop {
+        match empty_before_read(room, buffer, output) {
+            Ok(()) => {}
+            Err(Failed) => return End::WriteFault,
+        }
+        match answer_next(alloc, input, output, buffer, room, shards) {
+            Ok(()) => {}
+            Err(end) => return end,
+        }
+    }
+}
+
+// Whoever waits for a reply before he sends the next message gets it.
+fn empty_before_read<U: Sink>(
+    room: &Room,
+    buffer: &mut Buffered,
+    output: &mut U,
+) -> Result<(), Failed>
+    ensures ok { OnOk result (PassesOn (U.gained output.old) (U.gained output.new) buffer.old.waiting buffer.new.waiting) }
+    ensures failed { OnErr result (GainsPart (U.gained output.old) (U.gained output.new) buffer.old.waiting) }
+    ensures dropped { OnErr result (buffer.new.waiting ≡ []) }
+    ensures cause { HasCause (U.faults output.old) (U.faults output.new) result }
+{
+    if room.holds_message() {
+        return Ok(());
+    }
+    buffer.empty(output)
+}
+
+// Takes one message, serves its request and writes the reply.
+fn answer_next<I: Source, U: Sink>(
+    alloc: Global,
+    input: &mut I,
+    output: &mut U,
+    buffer: &mut Buffered,
+    room: &mut Room,
+    shards: &mut [Shard],
+) -> Result<(), End>
+    requires { IsSite shards.old }
+    ensures turn { OnOk result (TakesTurn room.old.place room.new.place (stream room.old (I.left input.old)) (stream room.new (I.left input.new))
+        (site_states shards.old) (site_states shards.new) (U.gained output.old) (U.gained output.new) buffer.old.waiting buffer.new.waiting) }
+    ensures end { IfErr result (λ end. EndsTurn end room.old.place (stream room.old (I.left input.old)) (I.left input.new)
+        (site_states shards.old) (U.gained output.old) (U.gained output.new) buffer.old.waiting buffer.new.waiting) }
+    ensures cause { IfErr result (λ end. HasFaultCause end (I.faults input.old) (I.faults input.new) (U.faults output.old) (U.faults output.new)) }
+    ensures read { I.faults input.old ≤ I.faults input.new }
+    ensures written { U.faults output.old ≤ U.faults output.new }
+{
+    match read_message(alloc, input, room) {
+        Ok(Some(request)) => serve_and_write(alloc, output, buffer, shards, request),
+        Ok(None) => Err(End::Closed),
+        Err(WireFault::ReadFault) => Err(End::ReadFault),
+        Err(WireFault::NotAMessage { place: _ }) => Err(End::NotAMessage),
+    }
+}
+
+fn serve_and_write<U: Sink>(
+    alloc: Global,
+    output: &mut U,
+    buffer: &mut Buffered,
+    shards: &mut [Shard],
+    request: Request,
+) -> Result<(), End>
+    requires { IsSite shards.old }
+    ensures served { (spelled : asked.Request) → IsRead request spelled → (reply : reply.Reply)
+        × Serves (site_states shards.old) spelled reply (site_states shards.new)
+        × MatchResult result
+        (λ _. PassesOn (U.gained output.old) (U.gained output.new) (buffer.old.waiting ++ reply_text reply) buffer.new.waiting)
+        (λ _. GainsPart (U.gained output.old) (U.gained output.new) (buffer.old.waiting ++ reply_text reply)) }
+    ensures fault { IfErr result (λ end. end ≡ End.WriteFault) }
+    ensures dropped { OnErr result (buffer.new.waiting ≡ []) }
+    ensures cause { HasCause (U.faults output.old) (U.faults output.new) result }
+{
+    let reply = site::serve(alloc, shards, request);
+    match buffer_reply(buffer, output, &reply) {
+        Ok(()) => Ok(()),
+        Err(Failed) => Err(End::WriteFault),
+    }
+}

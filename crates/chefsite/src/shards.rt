@@ -1,0 +1,100 @@
+//! The organisations of a site, kept in shards: the contract that a shard has is all that the
+//! theorem above stands on.
+
+ghost use Rattle.std.specs.Prelude.{◌≡◌, ℕ, List};
+ghost use Rattle.std.specs.Option.{ForSome};
+ghost use Rattle.chefsite.specs.Organisations.{kept_at};
+
+use doc_tree::{NoMemory, Text};
+use indexmap::IndexMap;
+use org_machine::{OrgState, Refusal, Reply, Request};
+use std::alloc::Global;
+
+/// The organisations of one shard, by their names.
+#[derive(Drop)]
+pub struct Shard {
+    organisations: IndexMap<Text, OrgState>,
+    ghost named: { (name : List ℕ) → ForSome (kept_at organisations name) (λ kept. kept.name ≡ name) },
+}
+
+impl Shard {
+    ghost use Rattle.std.specs.Prelude.{None, Some, IfOk, OnOk};
+    ghost use Rattle.org_machine.specs.Requests.{org_of};
+    ghost use Rattle.org_machine.specs.States.{state_in};
+    ghost use Rattle.org_machine.specs.Marks.{mark_of, answer, IsLawful};
+    ghost use Rattle.org_machine.specs.Serving.{state_then};
+    ghost use Rattle.chefsite.specs.Shards.{states_in, HasRoom};
+
+    /// A shard without organisations. It takes no memory.
+    pub fn new(alloc: Global) -> Shard
+        ensures { (name : List ℕ) → states_in result name ≡ None }
+    {
+        Shard {
+            organisations: IndexMap::new(alloc),
+        }
+    }
+
+    /// Serves one request of the organisation of this name. What it does leaves every other
+    /// organisation's state as it was.
+    pub fn serve(&mut self, alloc: Global, org: &Text, request: &Request) -> Reply
+        requires { org_of request.now ≡ Some org.now }
+        ensures reply { result ≡ answer (mark_of result) request.now (states_in self.old org.now) }
+        ensures lawful { IsLawful (mark_of result) request.now (states_in self.old org.now) }
+        ensures states { (name : List ℕ) →
+            states_in self.new name ≡ state_then name request.now result (states_in self.old name) }
+    {
+        match self.organisations.get_mut(org) {
+            Some(state) => org_machine::serve(alloc, state, request),
+            None => self.serve_absent(alloc, org, request),
+        }
+    }
+
+    // An organisation that isn't there is kept only once a request has created it, so what is asked
+    // of strangers costs no memory.
+    fn serve_absent(&mut self, alloc: Global, org: &Text, request: &Request) -> Reply
+        requires of { org_of request.now ≡ Some org.now }
+        requires absent { states_in self.old org.now ≡ None }
+        ensures reply { result ≡ answer (mark_of result) request.now (states_in self.old org.now) }
+        ensures lawful { IsLawful (mark_of result) request.now (states_in self.old org.now) }
+        ensures states { (name : List ℕ) →
+            states_in self.new name ≡ state_then name request.now result (states_in self.old name) }
+    {
+        match self.make_room(alloc, org) {
+            Ok((key, state)) => self.serve_new(alloc, key, state, request),
+            Err(NoMemory) => Refusal::OutOfMemory.reply(),
+        }
+    }
+
+    // All the memory that a new organisation needs here: its name twice, and a place in the map.
+    fn make_room(&mut self, alloc: Global, org: &Text) -> Result<(Text, OrgState), NoMemory>
+        ensures states { (name : List ℕ) → states_in self.new name ≡ states_in self.old name }
+        ensures key { IfOk result (λ made. made.0 ≡ org.now) }
+        ensures name { IfOk result (λ made. made.1.name ≡ org.now) }
+        ensures state { IfOk result (λ made. state_in made.1 ≡ None) }
+        ensures room { OnOk result (HasRoom self.new) }
+    {
+        self.organisations.reserve(1)?;
+        let key = org.copy(alloc)?;
+        Ok((key, OrgState::none(org.copy(alloc)?)))
+    }
+
+    // Serves the first request of an organisation, and keeps it if it is there afterwards.
+    fn serve_new(&mut self, alloc: Global, key: Text, state: OrgState, request: &Request) -> Reply
+        requires of { org_of request.now ≡ Some key }
+        requires name { state.name ≡ key }
+        requires none { state_in state ≡ None }
+        requires absent { states_in self.old key ≡ None }
+        requires room { HasRoom self.old }
+        ensures reply { result ≡ answer (mark_of result) request.now (states_in self.old key) }
+        ensures lawful { IsLawful (mark_of result) request.now (states_in self.old key) }
+        ensures states { (name : List ℕ) →
+            states_in self.new name ≡ state_then name request.now result (states_in self.old name) }
+    {
+        let mut state = state;
+        let reply = org_machine::serve(alloc, &mut state, request);
+        if state.is_there() {
+            let _ = self.organisations.insert(key, state);
+        }
+        reply
+    }
+}

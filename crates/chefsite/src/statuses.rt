@@ -1,0 +1,37 @@
+//! The statuses with which the program ends.
+
+ghost use Rattle.std.specs.Prelude.{◌≡◌};
+ghost use Rattle.chefsite.specs.Statuses as spec;
+
+/// How a command ended.
+#[derive(Clone, Copy, Debug, PartialEq, Eq)]
+pub enum Status {
+    /// 0: all done, and the input was read to its end.
+    Done,
+    /// 2: the words are no command. Nothing was read or written.
+    Usage,
+    /// 3: a read failed. What was read before it was answered.
+    ReadFault,
+    /// 4: a write failed. Some first replies were written, the last perhaps in part.
+    WriteFault,
+    /// 7: no memory was left to begin with. Nothing was read or written.
+    NoMemory,
+    /// 8: what follows the last whole message isn't nothing and is no message.
+    NotAMessage,
+}
+
+impl Status {
+    /// The number that the process ends with.
+    pub fn code(self) -> u8
+        ensures { result ≡ spec.code self }
+    {
+        match self {
+            Status::Done => 0,
+            Status::Usage => 2,
+            Status::ReadFault => 3,
+            Status::WriteFault => 4,
+            Status::NoMemory => 7,
+            Status::NotAMessage => 8,
+        }
+    }
+}
