@@ -1,11 +1,12 @@
 //! The loop that answers a stream of messages, one after another.
 
-ghost use Rattle.std.specs.Prelude.{◌≡◌, ◌≤◌, ◌++◌, ℕ, [], List, None, OnOk, OnErr, IfErr, MatchResult, length};
+ghost use Rattle.std.specs.Prelude.{◌≡◌, ◌≤◌, ◌-◌, ◌++◌, ℕ, [], List, None, OnOk, OnErr, IfErr, MatchResult, length};
 ghost use Rattle.outside_core.specs.Failed.{HasCause};
 ghost use Rattle.outside_core.specs.Sink.{GainsPart, PassesOn};
 ghost use Rattle.org_machine.specs.declared.replies.Reply as reply;
 ghost use Rattle.org_machine.specs.declared.requests.Request as asked;
 ghost use Rattle.org_machine.specs.Serving.{Serves};
+ghost use Rattle.http_wire.specs.Message.{BeginsNone, last_place};
 ghost use Rattle.http_wire.specs.Requests.{IsRead};
 ghost use Rattle.http_wire.specs.Replies.{reply_text};
 ghost use Rattle.http_wire.specs.Room.{stream};
@@ -72,6 +73,7 @@ fn empty_before_read<U: Sink>(
     ensures ok { OnOk result (PassesOn (U.gained output.old) (U.gained output.new) buffer.old.waiting buffer.new.waiting) }
     ensures failed { OnErr result (GainsPart (U.gained output.old) (U.gained output.new) buffer.old.waiting) }
     ensures dropped { OnErr result (buffer.new.waiting ≡ []) }
+    ensures emptied { BeginsNone (last_place - room.now.place) room.now.held → buffer.new.waiting ≡ [] }
     ensures cause { HasCause (U.faults output.old) (U.faults output.new) result }
 {
     if room.holds_message() {

@@ -124,7 +124,8 @@ fn words_given<R: Env + AllocGlobal>(rt: &R) -> Result<Vec<Text>, Status>
 }
 
 fn status_without_words(kind: ErrorKind) -> Status
-    ensures { (result ≡ Status.Usage) ⊎ (result ≡ Status.NoMemory) }
+    ensures usage { (result ≡ Status.Usage) ↔ (kind ≡ ErrorKind.InvalidData) }
+    ensures memory { (result ≡ Status.NoMemory) ↔ ¬ (kind ≡ ErrorKind.InvalidData) }
 {
     if kind == ErrorKind::InvalidData {
         Status::Usage
