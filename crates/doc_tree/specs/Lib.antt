@@ -3,6 +3,7 @@ pub mod Data
 pub mod Doc
 pub mod DocCode
 pub mod Falls
+pub mod Kind
 pub mod Moved
 pub mod Name
 pub mod Number

@@ -55,6 +55,7 @@ impl Bytes {
         Ok(Bytes::of(Vec::from_slice(alloc, bytes)?))
     }
 
+    /// The bytes as a slice that borrows them.
     pub fn as_slice(&self) -> &[u8]
         ensures { result.now ≡ self.now }
     {
@@ -64,12 +65,14 @@ impl Bytes {
         }
     }
 
+    /// How many bytes there are.
     pub fn len(&self) -> usize
         ensures { result ≡ length self.now }
     {
         self.as_slice().len()
     }
 
+    /// Whether there are no bytes.
     pub fn is_empty(&self) -> bool
         ensures { IsTrue result ↔ (self.now ≡ []) }
     {

@@ -5,7 +5,7 @@ ghost use Rattle.doc_tree.specs.Place.{IsPlace, replaced};
 ghost use Rattle.doc_tree.specs.Tree.{doc_of, pair_of};
 ghost use Rattle.doc_tree.specs.Valid.{ArePairs, InOrder};
 ghost use Rattle.std.specs.Map.{keys_of};
-ghost use Rattle.std.specs.Prelude.{◌≡◌, ◌<◌, ◌≤◌, ◌↔◌, IsTrue, OnOk, OnErr, [], ◌∷◌, ◌++◌, insert, length, map, option_map};
+ghost use Rattle.std.specs.Prelude.{◌≡◌, ◌<◌, ◌≤◌, ◌↔◌, IfOk, IsTrue, OnOk, OnErr, [], ◌∷◌, ◌++◌, insert, length, map, option_map};
 
 use crate::no_memory::NoMemory;
 use crate::text::Text;
@@ -30,7 +30,17 @@ impl Fields {
         }
     }
 
-    /// The tree at a key, or `None` exactly where the dict has no such key.
+    /// The dict of no fields, with room for exactly `count`.
+    pub fn with_capacity(alloc: Global, count: usize) -> Result<Fields, NoMemory>
+        ensures { IfOk result (λ fields. fields ≡ []) }
+    {
+        Ok(Fields {
+            entries: Vec::with_capacity(alloc, count)?,
+        })
+    }
+
+    /// The tree at a key, or `None` exactly where the dict has no such key. It takes as
+    /// many comparisons of keys as the number of fields has binary digits, at most, and no memory.
     pub fn get(&self, key: &str) -> Option<&Tree>
         ensures { option_map (λ t. doc_of t.now) result ≡ pair_at key.now (pairs_of self.now) }
     {
@@ -106,7 +116,7 @@ impl Fields {
         Ok(())
     }
 
-    /// The fields, in the order of their keys.
+    /// The fields, in the order of their keys, as a slice that borrows them.
     pub fn as_slice(&self) -> &[Field]
         ensures value { map pair_of result.now ≡ self.now }
         ensures known { ArePairs (pairs_of self.now) }
@@ -125,12 +135,14 @@ impl Fields {
         entries
     }
 
+    /// How many fields it has.
     pub fn len(&self) -> usize
         ensures { result ≡ length self.now }
     {
         self.entries.len()
     }
 
+    /// Whether it has no fields.
     pub fn is_empty(&self) -> bool
         ensures { IsTrue result ↔ (self.now ≡ []) }
     {

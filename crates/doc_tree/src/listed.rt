@@ -13,8 +13,10 @@ pub struct Listed<T> {
     items: Vec<T>,
 }
 
+/// Texts, in order: contracts see a list of lists of bytes.
 pub type Texts = Listed<Text>;
 
+/// Names, in order: contracts see a list of lists of bytes.
 pub type Names = Listed<Name>;
 
 impl<T> Model for Listed<T> {
@@ -50,12 +52,14 @@ impl<T> Listed<T> {
         items
     }
 
+    /// How many items it has.
     pub fn len(&self) -> usize
         ensures { result ≡ length self.now }
     {
         self.items.len()
     }
 
+    /// Whether it has no items.
     pub fn is_empty(&self) -> bool
         ensures { IsTrue result ↔ (self.now ≡ []) }
     {
@@ -69,6 +73,7 @@ impl<T> Listed<T> {
         self.items.get(index)
     }
 
+    /// The items, in order, as a slice that borrows them.
     pub fn as_slice(&self) -> &[T]
         ensures { result.now ≡ self.now }
     {

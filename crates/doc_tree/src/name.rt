@@ -97,6 +97,7 @@ impl Name {
         }
     }
 
+    /// The name as a `str` that borrows it.
     pub fn as_str(&self) -> &str
         ensures value { result.now ≡ self.now }
         ensures form { IsTrue (is_name self.now) }
@@ -105,6 +106,7 @@ impl Name {
         self.text.as_str()
     }
 
+    /// The name as a text that borrows it.
     pub fn as_text(&self) -> &Text
         ensures value { result.now ≡ self.now }
         ensures form { IsTrue (is_name self.now) }

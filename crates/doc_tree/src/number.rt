@@ -40,6 +40,7 @@ impl Number {
         }
     }
 
+    /// Its value, from -2^63 to 2^64 - 1.
     pub fn value(&self) -> i128
         ensures value { result ≡ self.now }
         ensures whole { IsWhole self.now }

@@ -48,8 +48,8 @@ impl From<OutOfMemory> for ReadFault {
     }
 }
 
-/// The tree that JSON text says. Of a key that comes twice the last value stands, and it alone is looked at for
-/// `TooDeep` and `NotWhole`.
+/// The tree that JSON text says, which holds no spare room. Of a key that comes twice the last value stands, and it
+/// alone is looked at for `TooDeep` and `NotWhole`.
 pub fn read_json(alloc: Global, bytes: &[u8]) -> Result<Tree, ReadFault>
     ensures { Gives result (reads bytes.now) }
 {
@@ -143,7 +143,7 @@ fn whole_in(number: serde_json::Number) -> Option<Number>
 fn trees_from(alloc: Global, items: Vec<Value>) -> Result<Trees, ReadFault>
     ensures { Makes (λ trees. trees) result (docs_in (items_view items.items)) }
 {
-    let mut trees = Trees::new(alloc);
+    let mut trees = Trees::with_capacity(alloc, items.len())?;
     for item in items {
         trees.push(tree_from(alloc, item)?)?;
     }
@@ -154,7 +154,7 @@ fn trees_from(alloc: Global, items: Vec<Value>) -> Result<Trees, ReadFault>
 fn fields_from(alloc: Global, members: Map<String, Value>) -> Result<Fields, ReadFault>
     ensures { Makes (λ fields. fields) result (pairs_in (members_view members.entries)) }
 {
-    let mut fields = Fields::new(alloc);
+    let mut fields = Fields::with_capacity(alloc, members.len())?;
     for (name, member) in members {
         fields.push(Text::of(name), tree_from(alloc, member)?)?;
     }

@@ -1,9 +1,13 @@
 //! What no clause says: that the calls succeed, and that the definitions are those of RFC 8259 and of `serde_json`.
+ghost use Rattle.std.specs.Prelude.{◌≡◌, ◌+◌, ◌<◌};
+
 use crate::{
-    Bytes, Field, Fields, Listed, Name, Names, Number, ReadFault, Text, Texts, Tree, Trees,
-    is_name, is_organisation_name, json_text, one_text, read_json, text_reads_back,
+    Bytes, Field, Fields, Kind, Listed, Name, Names, Number, ReadFault, Steps, Text, Texts, Tree,
+    Trees, is_name, is_organisation_name, json_text, one_text, read_json, text_reads_back,
 };
 use std::alloc::Global;
+use std::marker::Brand;
+use std::sync::ledger::{Blank, Ledger};
 use std::test::Fail;
 
 fn rewritten(alloc: Global, bytes: &[u8]) -> Result<Bytes, ReadFault> {
@@ -214,5 +218,28 @@ fn values_cross_threads(rt: HostRuntime) -> Result<(), Fail> {
     crosses(&Bytes::constant(b""));
     crosses(&Texts::new(rt.alloc()));
     crosses(&ReadFault::NotJson);
+    Ok(())
+}
+
+fn two_steps<L: Ledger>(steps: &mut Steps<L>)
+    ensures { steps.new ≡ steps.old + 2 }
+{
+    steps.tick();
+    steps.tick();
+}
+
+fn counted<L: Ledger>(blank: Blank)
+    requires name { blank.name ≡ L.name }
+    requires parts { blank.parts ≡ L.parts }
+    requires some { 0 < L.parts }
+{
+    let mut steps: Steps<L> = Steps::begin(blank);
+    two_steps(&mut steps);
+}
+
+#[test]
+fn steps_are_counted_and_kinds_have_words(rt: HostRuntime) -> Result<(), Fail> {
+    counted::<Brand>(Blank::new(1));
+    assert_eq!(rt; Kind::PolicyGroup.word(), "policy_group");
     Ok(())
 }

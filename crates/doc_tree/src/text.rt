@@ -27,10 +27,12 @@ impl Model for Text {
 }
 
 impl Text {
-    /// The text of a string, which is moved.
+    /// The text of a string, which is moved and gives its spare room back.
     pub fn of(inner: String) -> Text
         ensures { result ≡ string_bytes inner }
     {
+        let mut inner = inner;
+        inner.shrink_to_fit();
         Text { inner }
     }
 
@@ -43,6 +45,7 @@ impl Text {
         })
     }
 
+    /// The text as a `str` that borrows it.
     pub fn as_str(&self) -> &str
         ensures value { result.now ≡ self.now }
         ensures utf8 { IsUtf8 self.now }
@@ -50,6 +53,7 @@ impl Text {
         self.inner.as_str()
     }
 
+    /// Its bytes, which are UTF-8, as a slice that borrows them.
     pub fn as_bytes(&self) -> &[u8]
         ensures value { result.now ≡ self.now }
         ensures utf8 { IsUtf8 self.now }
@@ -64,6 +68,7 @@ impl Text {
         self.inner.len()
     }
 
+    /// Whether it has no bytes.
     pub fn is_empty(&self) -> bool
         ensures { IsTrue result ↔ (self.now ≡ []) }
     {

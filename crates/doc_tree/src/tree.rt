@@ -7,11 +7,17 @@ use std::marker::Model;
 #[cycle(tree)]
 #[derive(Drop)]
 pub enum Tree {
+    /// `null`.
     Null,
+    /// `true` or `false`.
     Bool(bool),
+    /// A whole number.
     Whole(Number),
+    /// A text.
     Words(Text),
+    /// A list.
     List(Trees),
+    /// A dict.
     Dict(Fields),
 }
 
@@ -26,7 +32,9 @@ pub struct Trees {
 #[cycle(tree)]
 #[derive(Drop)]
 pub struct Field {
+    /// The key.
     pub key: Text,
+    /// The tree at the key.
     pub tree: Tree,
 }
 

@@ -2,7 +2,7 @@
 ghost use Rattle.doc_tree.specs.Doc.{docs_of};
 ghost use Rattle.doc_tree.specs.Tree.{doc_of};
 ghost use Rattle.doc_tree.specs.Valid.{AreDocs};
-ghost use Rattle.std.specs.Prelude.{◌≡◌, ◌↔◌, IsTrue, OnOk, OnErr, [], ◌∷◌, ◌++◌, length, map};
+ghost use Rattle.std.specs.Prelude.{◌≡◌, ◌↔◌, IfOk, IsTrue, OnOk, OnErr, [], ◌∷◌, ◌++◌, length, map};
 
 use crate::no_memory::NoMemory;
 use crate::tree::{Tree, Trees};
@@ -18,6 +18,15 @@ impl Trees {
         }
     }
 
+    /// The list of no trees, with room for exactly `count`.
+    pub fn with_capacity(alloc: Global, count: usize) -> Result<Trees, NoMemory>
+        ensures { IfOk result (λ trees. trees ≡ []) }
+    {
+        Ok(Trees {
+            items: Vec::with_capacity(alloc, count)?,
+        })
+    }
+
     /// Adds a tree at the end.
     pub fn push(&mut self, tree: Tree) -> Result<(), NoMemory>
         ensures ok { OnOk result (self.new ≡ self.old ++ doc_of tree ∷ []) }
@@ -29,7 +38,7 @@ impl Trees {
         Ok(())
     }
 
-    /// The trees, in order.
+    /// The trees, in order, as a slice that borrows them.
     pub fn as_slice(&self) -> &[Tree]
         ensures value { map doc_of result.now ≡ self.now }
         ensures known { AreDocs (docs_of self.now) }
@@ -46,12 +55,14 @@ impl Trees {
         items
     }
 
+    /// How many trees it has.
     pub fn len(&self) -> usize
         ensures { result ≡ length self.now }
     {
         self.items.len()
     }
 
+    /// Whether it has no trees.
     pub fn is_empty(&self) -> bool
         ensures { IsTrue result ↔ (self.now ≡ []) }
     {

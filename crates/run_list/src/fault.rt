@@ -13,6 +13,7 @@ pub enum ItemFault {
     /// The text would be an item but for what follows its `@`.
     #[error("not a version behind @")]
     BadVersion,
+    /// Memory ran out.
     #[error("out of memory")]
     NoMemory,
 }

@@ -16,6 +16,7 @@ pub struct Item {
     named: Named,
 }
 
+/// Items, in the order of the run list: contracts see the list of them.
 pub type Items = Listed<Item>;
 
 impl Model for Item {

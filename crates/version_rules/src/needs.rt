@@ -12,6 +12,7 @@ pub struct Need {
     pub constraint: Constraint,
 }
 
+/// Needs, in order: contracts see the list of them.
 pub type Needs = Listed<Need>;
 
 impl Need {
