@@ -1,0 +1,5 @@
+mod NamedLemmas
+mod PairLemmas
+mod ReadBackLemmas
+mod RunListLemmas
+mod SettledLemmas

@@ -1,0 +1,7 @@
+pub mod Forms
+pub mod Fields
+pub mod Kinds
+pub mod Laws
+pub mod Objects
+pub mod Outcomes
+pub mod Rules

@@ -1,0 +1,17 @@
+//! The bodies of objects: what is stored of each, or the first field that hasn't its form.
+#![tactic(auto)]
+
+mod fault;
+mod fields;
+mod forms;
+mod laws;
+mod objects;
+mod rules;
+mod run_lists;
+mod tables;
+#[cfg(test)]
+mod tests;
+
+pub use fault::FormFault;
+pub use laws::stored_objects_read_back;
+pub use objects::read_object;
