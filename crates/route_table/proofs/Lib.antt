@@ -1,0 +1,5 @@
+pub mod SeekLemmas
+pub mod OrderLemmas
+pub mod Utf8Lemmas
+pub mod PathLemmas
+pub mod LeftOutLemmas

@@ -1,0 +1,5 @@
+pub mod Verbs
+pub mod Patterns
+pub mod Table
+pub mod LeftOut
+pub mod Routes

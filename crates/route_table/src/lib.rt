@@ -1,0 +1,16 @@
+//! The table of routes: which paths there are, the methods of each, what is built, and what is left out.
+#![tactic(auto)]
+
+mod left_out;
+mod paths;
+mod routes;
+mod table;
+#[cfg(test)]
+mod tests;
+mod verbs;
+
+pub use left_out::is_left_out;
+pub use paths::Path;
+pub use routes::Routes;
+pub use table::{ROUTES, Row, has_method, is_built};
+pub use verbs::Verb;

@@ -1,0 +1,106 @@
+//! The router: which path of the table the segments of a target name.
+ghost use Rattle.std.specs.Prelude.{◌≡◌, IfOk, string_bytes, []};
+ghost use Rattle.std.specs.List.{list_all};
+ghost use Rattle.std.specs.Option.{option_map};
+ghost use Rattle.matchit.specs.Route.{parse_route};
+ghost use Rattle.matchit.specs.Seek.{first};
+ghost use Rattle.route_table.specs.Patterns as patterns;
+ghost use Rattle.route_table.specs.Patterns.{joined};
+ghost use Rattle.route_table.specs.Routes.{FindsPaths, with_route, with_rows};
+ghost use Rattle.route_table.specs.Table as spec;
+
+use crate::paths::Path;
+use crate::table::{ROUTES, Row};
+use doc_tree::{NoMemory, Text};
+use matchit::Router;
+use std::alloc::Global;
+
+// How many bytes a joined path mostly has at most.
+const JOINED_LEN: usize = 128;
+
+/// A router over the table of routes. One serves any number of requests.
+#[derive(Drop)]
+pub struct Routes {
+    router: Router<Path>,
+    ghost table: { FindsPaths router },
+}
+
+impl Routes {
+    /// A router with all routes of the table. `NoMemory` is its only error.
+    pub fn take(alloc: Global) -> Result<Routes, NoMemory> {
+        let router = router_of(alloc, &ROUTES)?;
+        Ok(Routes { router })
+    }
+
+    /// The path of the table that these segments name. `None` where no route has them, as where one
+    /// of them is empty or holds a slash. Where two routes fit, the one that has a fixed segment
+    /// there is it. It takes the memory of one string.
+    pub fn find(&self, alloc: Global, segments: &[Text]) -> Result<Option<Path>, NoMemory>
+        ensures { IfOk result (λ path. path ≡ spec.path_at segments.now) }
+    {
+        if !are_segments(segments) {
+            return Ok(None);
+        }
+        let path = joined(alloc, segments)?;
+        Ok(self.at(path.as_str()))
+    }
+
+    // The path that the router has for a text.
+    fn at(&self, path: &str) -> Option<Path>
+        ensures { result ≡ option_map (λ route. route.value) (first self.now.router path.now) }
+    {
+        match self.router.at(path) {
+            Ok(found) => Some(*found.value),
+            Err(_) => None,
+        }
+    }
+}
+
+// A router with these rows in it.
+#[tactic(auto, unfolding(crate::specs::Routes::with_rows))]
+fn router_of(alloc: Global, rows: &[Row]) -> Result<Router<Path>, NoMemory>
+    ensures { IfOk result (λ router. router ≡ with_rows rows.now []) }
+{
+    let mut router = Router::new(alloc);
+    for row in rows {
+        add(&mut router, row.pattern, row.path)?;
+    }
+    Ok(router)
+}
+
+// Adds a route.
+fn add(router: &mut Router<Path>, pattern: &str, path: Path) -> Result<(), NoMemory>
+    ensures { IfOk result (λ _. router.new ≡ with_route (parse_route pattern.now) path router.old) }
+{
+    match router.insert(pattern, path) {
+        Ok(()) => Ok(()),
+        Err(_) => Err(NoMemory),
+    }
+}
+
+// Whether each text is one segment of a path.
+fn are_segments(texts: &[Text]) -> bool
+    ensures { result ≡ list_all patterns.is_segment texts.now }
+{
+    texts.iter().all(|text| is_segment(text))
+}
+
+// Whether the text is one segment of a path.
+fn is_segment(text: &Text) -> bool
+    ensures { result ≡ patterns.is_segment text.now }
+{
+    let bytes = text.as_bytes();
+    !bytes.is_empty() && !bytes.contains(&b'/')
+}
+
+// The segments with a slash before each.
+fn joined(alloc: Global, segments: &[Text]) -> Result<String, NoMemory>
+    ensures { IfOk result (λ path. string_bytes path ≡ joined segments.now) }
+{
+    let mut path = String::with_capacity(alloc, JOINED_LEN)?;
+    for segment in segments {
+        path.push('/')?;
+        path.push_str(segment.as_str())?;
+    }
+    Ok(path)
+}
