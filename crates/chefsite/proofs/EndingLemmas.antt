@@ -5,12 +5,13 @@ use Rattle.std.specs.List.{flat_map}
 use Rattle.std.specs.Io.KnownBytes.{append_known, prepend_known, IsAtEnd}
 use Rattle.outside_core.specs.Sink.{GainsPart, PassesOn}
 use Rattle.http_wire.specs.Message.{Message, print_message, BeginsNone, last_place}
+use Rattle.http_wire.specs.Faults.{NoneBeginsIn}
 use Rattle.http_wire.specs.Splits.{Splits, BeginsAll, TakesAll, place_after}
 use Rattle.http_wire.proofs.SplitsLemmas.{BeginsAll-from_takes, Splits-unique}
 use Rattle.chefsite.specs.declared.answering.End.{End}
 use Rattle.chefsite.specs.declared.answering.End.TheVariants.{Closed, ReadFault, WriteFault, NotAMessage}
 use Rattle.chefsite.specs.Isolation.{reply_texts, Answers, IsAnswered, IsAnsweredToRest, IsAnsweredUpTo, IsCutShort}
-use Rattle.chefsite.specs.Turns.{HasReason, SoFar, Stops, EndsStream}
+use Rattle.chefsite.specs.Turns.{SoFar, Stops, EndsStream}
 use Rattle.chefsite.specs.declared.statuses.Status.{Status}
 use Rattle.chefsite.specs.declared.statuses.Status.TheVariants as status
 use Rattle.chefsite.specs.Endings.{Says, HasStatusCause, TellsRest, IsComplete, status_of}
@@ -84,22 +85,22 @@ says_closed first rest held gained now waiting stops out =
 
 -- a stream behind whose messages bytes are left that begin with none is split by these messages
 cut_split : (first now : Option (List ℕ)) (ms : List Message) (place : ℕ) → TakesAll 0 first now ms → place ≡ place_after 0 ms
-    → HasReason NotAMessage place now now → (rest : List ℕ) × IfSome first (λ bytes. Splits 0 bytes ms rest) × (rest ≢ [])
+    → NoneBeginsIn place now → (rest : List ℕ) × IfSome first (λ bytes. Splits 0 bytes ms rest) × (rest ≢ [])
 cut_split None now ms place taken reached reason = (0 ∷ [], tt, λ same. absurd (omega (arith, ap length same)))
 cut_split (Some bytes) now ms place taken reached reason =
     let begins = BeginsAll-from_takes 0 bytes now ms taken in
-    let left : (begins.0 ≢ []) × BeginsNone (last_place - place) begins.0 = subst (λ l. HasReason NotAMessage place l now) begins.1 reason in (
+    let left : (begins.0 ≢ []) × BeginsNone (last_place - place) begins.0 = subst (NoneBeginsIn place) begins.1 reason in (
       begins.0,
       record { whole = begins.2; none = subst (λ p. BeginsNone (last_place - p) begins.0) reached left.1 },
       left.0,
     )
 
 -- what follows the whole messages is none
-pub says_not_a_message : (first rest held gained now : Option (List ℕ)) (waiting : List ℕ)
-    → Stops NotAMessage first rest held gained waiting → now ≡ append_known gained waiting → IsAnsweredToRest first held now
-says_not_a_message first rest held gained now waiting stops out =
+pub says_not_a_message : (told : ℕ) (first rest held gained now : Option (List ℕ)) (waiting : List ℕ)
+    → Stops (NotAMessage told) first rest held gained waiting → now ≡ append_known gained waiting → IsAnsweredToRest told first held now
+says_not_a_message told first rest held gained now waiting stops out =
     let s = stops.3 in
-    let split = cut_split first stops.0 s.messages stops.1 s.taken s.reached stops.4 in (
+    let split = cut_split first stops.0 s.messages stops.1 s.taken s.reached stops.4.1 in (
       s.messages,
       s.exchanges,
       split.0,
@@ -109,6 +110,7 @@ says_not_a_message first rest held gained now waiting stops out =
         written = all_written held gained now (reply_texts s.exchanges) waiting s.written out;
       },
       split.2,
+      stops.4.0 ∙ s.reached,
     )
 
 -- a read failed
@@ -147,7 +149,7 @@ pub says_end : (end : End) (first rest held gained now : Option (List ℕ)) (wai
 says_end Closed first rest held gained now waiting out ends = says_closed first rest held gained now waiting ends out
 says_end ReadFault first rest held gained now waiting out ends = says_read_fault first rest held gained now waiting ends out
 says_end WriteFault first rest held gained now waiting out ends = cut_short_stays first held gained now waiting ends.1 out ends.0
-says_end NotAMessage first rest held gained now waiting out ends = says_not_a_message first rest held gained now waiting ends out
+says_end (NotAMessage told) first rest held gained now waiting out ends = says_not_a_message told first rest held gained now waiting ends out
 
 -- a front of nothing is nothing
 cut_short_after : (first held gained now : Option (List ℕ)) (waiting : List ℕ) → waiting ≡ [] → GainsPart gained now waiting
@@ -166,7 +168,7 @@ pub says_cut : (end : End) (first rest held gained now : Option (List ℕ)) (wai
 says_cut Closed first rest held gained now waiting p ends = cut_emptying first ends.0 ends.1 ends.2 held gained now waiting ends.3 p
 says_cut ReadFault first rest held gained now waiting p ends = cut_emptying first ends.0 ends.1 ends.2 held gained now waiting ends.3 p
 says_cut WriteFault first rest held gained now waiting p ends = cut_short_after first held gained now waiting ends.1 p ends.0
-says_cut NotAMessage first rest held gained now waiting p ends = cut_emptying first ends.0 ends.1 ends.2 held gained now waiting ends.3 p
+says_cut (NotAMessage told) first rest held gained now waiting p ends = cut_emptying first ends.0 ends.1 ends.2 held gained now waiting ends.3 p
 
 -- a status tells of the rest, since a stream splits in one way
 pub tells_rest : (status : Status) (left rest held now : Option (List ℕ)) → Says status left rest held now → TellsRest status left
@@ -175,10 +177,11 @@ tells_rest status left rest held now says bytes messages part known split = (
       let all : IsAnswered left rest held now = subst (λ s. Says s left rest held now) done says in
       let other : Splits 0 bytes all.0 [] = subst (λ l. IfSome l (λ xs. Splits 0 xs all.0 [])) known all.2.split in
       (Splits-unique 0 bytes messages all.0 part [] split other).1),
-  (λ cut.
-      let all : IsAnsweredToRest left held now = subst (λ s. Says s left rest held now) cut says in
+  (λ place cut.
+      let all : IsAnsweredToRest place left held now = subst (λ s. Says s left rest held now) cut says in
       let other : Splits 0 bytes all.0 all.2 = subst (λ l. IfSome l (λ xs. Splits 0 xs all.0 all.2)) known all.3.split in
-      λ none. all.4 (sym (Splits-unique 0 bytes messages all.0 part all.2 split other).1 ∙ none)),
+      let one = Splits-unique 0 bytes messages all.0 part all.2 split other in
+      ((λ none. all.4 (sym one.1 ∙ none)), all.5 ∙ ap (place_after 0) (sym one.0))),
 )
 
 -- whole messages alone, and no count that rose, leave two statuses
@@ -190,5 +193,5 @@ is_complete status.Usage left rest held now rb rn wb wn command says cause bytes
 is_complete status.ReadFault left rest held now rb rn wb wn command says cause bytes messages known split no_read no_write = absurd (no_read cause)
 is_complete status.WriteFault left rest held now rb rn wb wn command says cause bytes messages known split no_read no_write = absurd (no_write cause)
 is_complete status.NoMemory left rest held now rb rn wb wn command says cause bytes messages known split no_read no_write = inr refl
-is_complete status.NotAMessage left rest held now rb rn wb wn command says cause bytes messages known split no_read no_write =
-    absurd ((tells_rest status.NotAMessage left rest held now says bytes messages [] known split).1 refl refl)
+is_complete (status.NotAMessage place) left rest held now rb rn wb wn command says cause bytes messages known split no_read no_write =
+    absurd (((tells_rest (status.NotAMessage place) left rest held now says bytes messages [] known split).1 place refl).0 refl)

@@ -1,3 +1,4 @@
 mod ShardLemmas
+mod ListingLemmas
 mod TurnLemmas
 mod EndingLemmas

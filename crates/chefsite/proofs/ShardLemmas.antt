@@ -1,5 +1,5 @@
 -- What a change of one organisation does to the states that a shard keeps.
-use Rattle.std.proofs.Common.{◌≡◌, ◌≢◌, ℕ, zero, suc, ◌<◌, inl, inr, ◌⊎◌, Bool, true, false, cond, List, [], ◌∷◌, length, set, get_or, Option, Some, None, sym, ap, refl, ◌∙◌, arith, length-set}
+use Rattle.std.proofs.Common.{◌≡◌, ◌≢◌, ℕ, zero, suc, ◌<◌, inl, inr, ◌⊎◌, Bool, true, false, cond, List, [], ◌∷◌, length, set, get_or, Option, Some, None, Result, Ok, Err, IsOk, OnOk, sym, ap, refl, ◌∙◌, arith, length-set}
 use Rattle.std.specs.List.{slice_get}
 use Rattle.std.specs.Option.{option_map_or}
 use Rattle.std.proofs.lemmas.Bool.{cases_eq, false_from_ne_true}
@@ -23,26 +23,31 @@ state_then-known org name request reply state is_org =
     ap (λ b. cond b (after (mark_of reply) request state) state) (ap (has_name name) is_org ∙ nat_list_eq_equiv.symm name org)
 
 -- under one name: its own organisation is as the request leaves it, any other as before
-written_under : (own : Bool) (before now : Option Kept) (old new : Kept) (request : Request) (reply : Reply)
+written_under : (own : Bool) (before now : Option Kept) (new : Kept) (state : State) (request : Request) (reply : Reply)
     → now ≡ cond own (Some new) before
-    → (own ≡ true → before ≡ Some old)
-    → state_in new ≡ after (mark_of reply) request (state_in old)
+    → (own ≡ true → state_at before ≡ state)
+    → state_in new ≡ after (mark_of reply) request state
     → state_at now ≡ cond own (after (mark_of reply) request (state_at before)) (state_at before)
-written_under true before now old new request reply put had step =
-    ap state_at put ∙ step ∙ ap (λ o. after (mark_of reply) request (state_at o)) (sym (had refl))
-written_under false before now old new request reply put had step = ap state_at put
+written_under true before now new state request reply put had step =
+    ap state_at put ∙ step ∙ ap (after (mark_of reply) request) (sym (had refl))
+written_under false before now new state request reply put had step = ap state_at put
 
--- an organisation that is there is written back
-pub states-written : (before now : KeptOrganisations) (org : List ℕ) (old new : Kept) (request : Request) (reply : Reply)
+-- what is kept under the name of an organisation is replaced
+pub states-written : (before now : KeptOrganisations) (org : List ℕ) (new : Kept) (state : State) (request : Request) (reply : Reply)
     → ((name : List ℕ) → kept_at now name ≡ cond (bytes_eq org name) (Some new) (kept_at before name))
-    → kept_at before org ≡ Some old
+    → state_at (kept_at before org) ≡ state
     → org_of request ≡ Some org
-    → state_in new ≡ after (mark_of reply) request (state_in old)
+    → state_in new ≡ after (mark_of reply) request state
     → (name : List ℕ) → state_at (kept_at now name) ≡ state_then name request reply (state_at (kept_at before name))
-states-written before now org old new request reply put had is_org step name =
-    written_under (bytes_eq org name) (kept_at before name) (kept_at now name) old new request reply (put name)
-    (λ same. ap (kept_at before) (sym ((bytes_decides org name).0 same)) ∙ had) step
+states-written before now org new state request reply put had is_org step name =
+    written_under (bytes_eq org name) (kept_at before name) (kept_at now name) new state request reply (put name)
+    (λ same. ap (λ n. state_at (kept_at before n)) (sym ((bytes_decides org name).0 same)) ∙ had) step
     ∙ sym (state_then-known org name request reply (state_at (kept_at before name)) is_org)
+
+-- what a call that succeeds promises
+pub on_ok : {T E P : Type 0} (result : Result T E) → IsOk result → OnOk result P → P
+on_ok (Ok value) ok promised = promised
+on_ok (Err error) ok promised = absurd (cc)
 
 -- under one name: an organisation that isn't there stays away
 absent_under : (own : Bool) (before : State) (request : Request) (reply : Reply)

@@ -150,5 +150,5 @@ last_turn ReadFault first now rest place states held gained wrote waited waiting
     (now, place, states, subst (λ w. SoFar first now place states held wrote w) (sym t.2) (subst (λ g. SoFar first now place states held g waited) (sym t.1) s), t.0)
 last_turn WriteFault first now rest place states held gained wrote waited waiting s t =
     (cut_turn first now place states held gained wrote waited s t.0, t.1)
-last_turn NotAMessage first now rest place states held gained wrote waited waiting s t =
+last_turn (NotAMessage told) first now rest place states held gained wrote waited waiting s t =
     (now, place, states, subst (λ w. SoFar first now place states held wrote w) (sym t.2) (subst (λ g. SoFar first now place states held g waited) (sym t.1) s), t.0)

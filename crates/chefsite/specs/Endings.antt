@@ -2,7 +2,7 @@
 use Rattle.std.specs.Prelude.{◌≡◌, ◌≢◌, ◌⊎◌, ℕ, List, [], Option, Some}
 use Rattle.outside_core.specs.Failed.{Rose}
 use Rattle.http_wire.specs.Message.{Message}
-use Rattle.http_wire.specs.Splits.{Splits}
+use Rattle.http_wire.specs.Splits.{Splits, place_after}
 use Rattle.chefsite.specs.declared.statuses.Status.{Status}
 use Rattle.chefsite.specs.declared.statuses.Status.TheVariants.{Done, Usage, ReadFault, WriteFault, NoMemory, NotAMessage}
 use Rattle.chefsite.specs.declared.answering.End.{End}
@@ -17,7 +17,7 @@ Says Usage left rest held now = (rest ≡ left) × (now ≡ held)
 Says ReadFault left rest held now = IsAnsweredUpTo left rest held now
 Says WriteFault left rest held now = IsCutShort left held now
 Says NoMemory left rest held now = (rest ≡ left) × (now ≡ held)
-Says NotAMessage left rest held now = IsAnsweredToRest left held now
+Says (NotAMessage place) left rest held now = IsAnsweredToRest place left held now
 
 -- a fault comes only where its count rose
 abbrev pub HasStatusCause : Status → ℕ → ℕ → ℕ → ℕ → Type 0
@@ -26,13 +26,15 @@ HasStatusCause Usage read_before read_now written_before written_now = Unit {0}
 HasStatusCause ReadFault read_before read_now written_before written_now = Rose read_before read_now
 HasStatusCause WriteFault read_before read_now written_before written_now = Rose written_before written_now
 HasStatusCause NoMemory read_before read_now written_before written_now = Unit {0}
-HasStatusCause NotAMessage read_before read_now written_before written_now = Unit {0}
+HasStatusCause (NotAMessage place) read_before read_now written_before written_now = Unit {0}
 
--- a stream splits in one way, so a status tells of the rest: 0 comes only where it is empty, and 8 only where it isn't
+-- a stream splits in one way, so a status tells of the rest: 0 comes only where it is empty, and 8 only
+-- where it isn't and begins at the place that is told
 abbrev pub TellsRest : Status → Option (List ℕ) → Type 0
 TellsRest status left =
     (bytes : List ℕ) (messages : List Message) (rest : List ℕ) → left ≡ Some bytes → Splits 0 bytes messages rest
-    → (status ≡ Done → rest ≡ []) × (status ≡ NotAMessage → rest ≢ [])
+    → (status ≡ Done → rest ≡ [])
+    × ((place : ℕ) → status ≡ NotAMessage place → (rest ≢ []) × (place ≡ place_after 0 messages))
 
 -- where the input is whole messages alone and no count rose, all was done, or memory was wanting
 abbrev pub IsComplete : Status → Option (List ℕ) → ℕ → ℕ → ℕ → ℕ → Type 0
@@ -45,4 +47,4 @@ abbrev pub status_of : End → Status
 status_of Closed = Done
 status_of end.ReadFault = ReadFault
 status_of end.WriteFault = WriteFault
-status_of end.NotAMessage = NotAMessage
+status_of (end.NotAMessage place) = NotAMessage place

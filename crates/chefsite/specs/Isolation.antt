@@ -4,7 +4,7 @@ use Rattle.std.specs.List.{flat_map}
 use Rattle.std.specs.Io.KnownBytes.{append_known, prepend_known, IsAtEnd}
 use Rattle.org_machine.specs.Alone.{Exchange, Alone, own, nobody}
 use Rattle.http_wire.specs.Message.{Message}
-use Rattle.http_wire.specs.Splits.{Splits, TakesAll}
+use Rattle.http_wire.specs.Splits.{Splits, TakesAll, place_after}
 use Rattle.http_wire.specs.Requests.{request_of}
 use Rattle.http_wire.specs.Replies.{reply_text}
 
@@ -34,11 +34,11 @@ abbrev pub IsAnswered : Option (List ℕ) → Option (List ℕ) → Option (List
 IsAnswered left rest held now =
     (messages : List Message) × (exchanges : List Exchange) × AnswersAll left held now messages exchanges [] × IsAtEnd rest
 
--- the whole messages were answered, and what follows them isn't nothing and begins no message
-abbrev pub IsAnsweredToRest : Option (List ℕ) → Option (List ℕ) → Option (List ℕ) → Type 0
-IsAnsweredToRest left held now =
+-- the whole messages were answered, and what follows them, at this place, isn't nothing and begins no message
+abbrev pub IsAnsweredToRest : ℕ → Option (List ℕ) → Option (List ℕ) → Option (List ℕ) → Type 0
+IsAnsweredToRest place left held now =
     (messages : List Message) × (exchanges : List Exchange) × (rest : List ℕ)
-    × AnswersAll left held now messages exchanges rest × (rest ≢ [])
+    × AnswersAll left held now messages exchanges rest × (rest ≢ []) × (place ≡ place_after 0 messages)
 
 -- the bytes that were taken until a read failed split so, and the whole messages were answered
 abbrev pub IsAnsweredUpTo : Option (List ℕ) → Option (List ℕ) → Option (List ℕ) → Option (List ℕ) → Type 0

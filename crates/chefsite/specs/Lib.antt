@@ -1,7 +1,9 @@
 pub mod Words
 pub mod Statuses
+pub mod Notes
 pub mod Organisations
 pub mod Shards
+pub mod Listing
 pub mod Isolation
 pub mod Turns
 pub mod Endings

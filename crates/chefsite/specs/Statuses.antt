@@ -10,4 +10,4 @@ code Usage = 2
 code ReadFault = 3
 code WriteFault = 4
 code NoMemory = 7
-code NotAMessage = 8
+code (NotAMessage place) = 8

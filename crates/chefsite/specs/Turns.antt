@@ -37,7 +37,7 @@ abbrev pub HasReason : End → ℕ → Option (List ℕ) → Option (List ℕ) �
 HasReason Closed place left rest = IsAtEnd left × IsAtEnd rest
 HasReason ReadFault place left rest = (taken : List ℕ) × (left ≡ prepend_known taken rest) × BeginsNone (last_place - place) taken
 HasReason WriteFault place left rest = ⊥
-HasReason NotAMessage place left rest = NoneBeginsIn place left
+HasReason (NotAMessage told) place left rest = (told ≡ place) × NoneBeginsIn place left
 
 -- a turn that ends the loop
 abbrev pub EndsTurn : End → ℕ → Option (List ℕ) → Option (List ℕ) → States → Option (List ℕ) → Option (List ℕ) → List ℕ → List ℕ → Type 0
@@ -47,8 +47,8 @@ EndsTurn ReadFault place left rest before held gained waited waiting =
     HasReason ReadFault place left rest × (gained ≡ held) × (waiting ≡ waited)
 EndsTurn WriteFault place left rest before held gained waited waiting =
     LosesTurn place left before held gained waited × (waiting ≡ [])
-EndsTurn NotAMessage place left rest before held gained waited waiting =
-    HasReason NotAMessage place left rest × (gained ≡ held) × (waiting ≡ waited)
+EndsTurn (NotAMessage told) place left rest before held gained waited waiting =
+    HasReason (NotAMessage told) place left rest × (gained ≡ held) × (waiting ≡ waited)
 
 -- these messages were taken from the front of a stream, each was answered, and of the replies' texts
 -- the sink gained a front, and the others wait
@@ -72,11 +72,11 @@ abbrev pub EndsStream : End → Option (List ℕ) → Option (List ℕ) → Opti
 EndsStream Closed first rest held gained waiting = Stops Closed first rest held gained waiting
 EndsStream ReadFault first rest held gained waiting = Stops ReadFault first rest held gained waiting
 EndsStream WriteFault first rest held gained waiting = IsCutShort first held gained × (waiting ≡ [])
-EndsStream NotAMessage first rest held gained waiting = Stops NotAMessage first rest held gained waiting
+EndsStream (NotAMessage told) first rest held gained waiting = Stops (NotAMessage told) first rest held gained waiting
 
 -- a fault comes only where its count rose
 abbrev pub HasFaultCause : End → ℕ → ℕ → ℕ → ℕ → Type 0
 HasFaultCause Closed read_before read_now written_before written_now = Unit {0}
 HasFaultCause ReadFault read_before read_now written_before written_now = Rose read_before read_now
 HasFaultCause WriteFault read_before read_now written_before written_now = Rose written_before written_now
-HasFaultCause NotAMessage read_before read_now written_before written_now = Unit {0}
+HasFaultCause (NotAMessage told) read_before read_now written_before written_now = Unit {0}

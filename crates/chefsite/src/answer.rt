@@ -9,15 +9,22 @@ ghost use Rattle.chefsite.specs.Turns.{EndsStream, HasFaultCause};
 use crate::answering::{End, answer_all};
 use crate::shards::Shard;
 use crate::statuses::Status;
+use doc_tree::{NoMemory, Steps};
 use http_wire::Room;
 use outside_core::{Buffered, Failed, Sink, Source};
-use std::alloc::{AllocError, Global};
+use std::alloc::Global;
+use std::sync::ledger::Ledger;
 
 /// How many bytes of replies wait before they are written.
 const REPLIES: usize = 65_536;
 
 /// Answers all requests of the input. Its own memory is taken before anything is read.
-pub(crate) fn answer<I: Source, U: Sink>(alloc: Global, input: &mut I, output: &mut U) -> Status
+pub(crate) fn answer<I: Source, U: Sink, L: Ledger>(
+    alloc: Global,
+    input: &mut I,
+    output: &mut U,
+    steps: &mut Steps<L>,
+) -> Status
     ensures says { Says result (I.left input.old) (I.left input.new) (U.gained output.old) (U.gained output.new) }
     ensures cause { HasStatusCause result (I.faults input.old) (I.faults input.new) (U.faults output.old) (U.faults output.new) }
     ensures words { result ≢ Status.Usage }
@@ -27,12 +34,12 @@ pub(crate) fn answer<I: Source, U: Sink>(alloc: Global, input: &mut I, output: &
     ensures written { U.faults output.old ≤ U.faults output.new }
 {
     match take_memory(alloc) {
-        Ok((room, buffer)) => answer_in(alloc, input, output, room, buffer),
-        Err(AllocError) => Status::NoMemory,
+        Ok((room, buffer)) => answer_in(alloc, input, output, room, buffer, steps),
+        Err(NoMemory) => Status::NoMemory,
     }
 }
 
-fn take_memory(alloc: Global) -> Result<(Room, Buffered), AllocError>
+fn take_memory(alloc: Global) -> Result<(Room, Buffered), NoMemory>
     ensures room { IfOk result (λ memory. memory.0 ≡ record { held = []; place = 0 }) }
     ensures buffer { IfOk result (λ memory. memory.1.waiting ≡ []) }
 {
@@ -40,12 +47,13 @@ fn take_memory(alloc: Global) -> Result<(Room, Buffered), AllocError>
     Ok((room, Buffered::take(alloc, REPLIES)?))
 }
 
-fn answer_in<I: Source, U: Sink>(
+fn answer_in<I: Source, U: Sink, L: Ledger>(
     alloc: Global,
     input: &mut I,
     output: &mut U,
     room: Room,
     buffer: Buffered,
+    steps: &mut Steps<L>,
 ) -> Status
     requires room { room ≡ record { held = []; place = 0 } }
     requires buffer { buffer.waiting ≡ [] }
@@ -58,7 +66,15 @@ fn answer_in<I: Source, U: Sink>(
     let mut room = room;
     let mut buffer = buffer;
     let mut shards = [Shard::new(alloc)];
-    let end = answer_all(alloc, input, output, &mut buffer, &mut room, &mut shards);
+    let end = answer_all(
+        alloc,
+        input,
+        output,
+        &mut buffer,
+        &mut room,
+        &mut shards,
+        steps,
+    );
     finish(&mut buffer, output, end)
 }
 
@@ -85,6 +101,6 @@ fn status_of(end: End) -> Status
         End::Closed => Status::Done,
         End::ReadFault => Status::ReadFault,
         End::WriteFault => Status::WriteFault,
-        End::NotAMessage => Status::NotAMessage,
+        End::NotAMessage { place } => Status::NotAMessage { place },
     }
 }

@@ -15,10 +15,12 @@ ghost use Rattle.chefsite.specs.Turns.{TakesTurn, EndsTurn, EndsStream, HasFault
 
 use crate::shards::Shard;
 use crate::site;
+use doc_tree::Steps;
 use http_wire::{Room, WireFault, buffer_reply, read_message};
 use org_machine::Request;
 use outside_core::{Buffered, Failed, Sink, Source};
 use std::alloc::Global;
+use std::sync::ledger::Ledger;
 
 /// Why no further message is answered.
 #[derive(Clone, Copy, Debug, PartialEq, Eq)]
@@ -29,19 +31,20 @@ pub enum End {
     ReadFault,
     /// A write failed.
     WriteFault,
-    /// What follows is no message.
-    NotAMessage,
+    /// What follows is no message. The place of its first byte is counted from the stream's first byte.
+    NotAMessage { place: u64 },
 }
 
 /// Answers the messages of a stream until no further one can be answered. Replies wait in the
 /// buffer, and go out before a read that may wait for a peer.
-pub(crate) fn answer_all<I: Source, U: Sink>(
+pub(crate) fn answer_all<I: Source, U: Sink, L: Ledger>(
     alloc: Global,
     input: &mut I,
     output: &mut U,
     buffer: &mut Buffered,
     room: &mut Room,
     shards: &mut [Shard],
+    steps: &mut Steps<L>,
 ) -> End
     requires site { IsSite shards.old }
     requires room { room.old ≡ record { held = []; place = 0 } }
@@ -57,7 +60,7 @@ pub(crate) fn answer_all<I: Source, U: Sink>(
             Ok(()) => {}
             Err(Failed) => return End::WriteFault,
         }
-        match answer_next(alloc, input, output, buffer, room, shards) {
+        match answer_next(alloc, input, output, buffer, room, shards, steps) {
             Ok(()) => {}
             Err(end) => return end,
         }
@@ -83,13 +86,14 @@ fn empty_before_read<U: Sink>(
 }
 
 // Takes one message, serves its request and writes the reply.
-fn answer_next<I: Source, U: Sink>(
+fn answer_next<I: Source, U: Sink, L: Ledger>(
     alloc: Global,
     input: &mut I,
     output: &mut U,
     buffer: &mut Buffered,
     room: &mut Room,
     shards: &mut [Shard],
+    steps: &mut Steps<L>,
 ) -> Result<(), End>
     requires { IsSite shards.old }
     ensures turn { OnOk result (TakesTurn room.old.place room.new.place (stream room.old (I.left input.old)) (stream room.new (I.left input.new))
@@ -101,19 +105,20 @@ fn answer_next<I: Source, U: Sink>(
     ensures written { U.faults output.old ≤ U.faults output.new }
 {
     match read_message(alloc, input, room) {
-        Ok(Some(request)) => serve_and_write(alloc, output, buffer, shards, request),
+        Ok(Some(request)) => serve_and_write(alloc, output, buffer, shards, request, steps),
         Ok(None) => Err(End::Closed),
         Err(WireFault::ReadFault) => Err(End::ReadFault),
-        Err(WireFault::NotAMessage { place: _ }) => Err(End::NotAMessage),
+        Err(WireFault::NotAMessage { place }) => Err(End::NotAMessage { place }),
     }
 }
 
-fn serve_and_write<U: Sink>(
+fn serve_and_write<U: Sink, L: Ledger>(
     alloc: Global,
     output: &mut U,
     buffer: &mut Buffered,
     shards: &mut [Shard],
     request: Request,
+    steps: &mut Steps<L>,
 ) -> Result<(), End>
     requires { IsSite shards.old }
     ensures served { (spelled : asked.Request) → IsRead request spelled → (reply : reply.Reply)
@@ -125,7 +130,7 @@ fn serve_and_write<U: Sink>(
     ensures dropped { OnErr result (buffer.new.waiting ≡ []) }
     ensures cause { HasCause (U.faults output.old) (U.faults output.new) result }
 {
-    let reply = site::serve(alloc, shards, request);
+    let reply = site::serve(alloc, shards, request, steps);
     match buffer_reply(buffer, output, &reply) {
         Ok(()) => Ok(()),
         Err(Failed) => Err(End::WriteFault),

@@ -5,37 +5,47 @@
 mod answer;
 mod answering;
 mod laws;
+mod listing;
+mod names;
+mod notes;
+mod numbers;
 mod shards;
 mod site;
 mod statuses;
 mod words;
 
-ghost use Rattle.std.specs.Prelude.{◌≡◌, ◌⊎◌, ◌↔◌, IfErr};
+ghost use Rattle.std.specs.Prelude.{◌≡◌, ◌⊎◌, ◌↔◌, ◌<◌, ℕ, IfErr};
 ghost use Rattle.outside_core.specs.Failed.{Rose};
 ghost use Rattle.chefsite.specs.Words.{IsCommand};
-ghost use Rattle.chefsite.specs.Endings.{TellsRest, IsComplete};
+ghost use Rattle.chefsite.specs.Endings.{Says, HasStatusCause, TellsRest, IsComplete};
 ghost use Rattle.chefsite.specs.Isolation.{IsAnswered, IsAnsweredToRest, IsAnsweredUpTo, IsCutShort};
+ghost use Rattle.chefsite.specs.Notes.{IsNoted};
 
 use answer::answer;
-use doc_tree::Text;
+use doc_tree::{Steps, Text};
 pub use laws::two_worlds;
+use notes::note;
 use outside_core::{Reading, Sink, Source, Writing};
 use statuses::Status;
 use std::alloc::Global;
 use std::env;
 use std::io::{BufReader, ErrorKind};
+use std::marker::Brand;
 use std::process::ExitCode;
 use std::rt::Env;
+use std::sync::ledger::{Blank, Ledger};
 use words::is_command;
 
-/// Runs the command that the words name, and waits for nobody.
-pub fn once<I: Source, U: Sink, N: Sink>(
+/// Runs the command that the words name, notes why it ended, and waits for nobody.
+pub fn once<I: Source, U: Sink, N: Sink, L: Ledger>(
     alloc: Global,
     words: &[Text],
     input: &mut I,
     output: &mut U,
     notes: &mut N,
+    blank: Blank,
 ) -> Status
+    requires ledger { (blank.name ≡ L.name) × (blank.parts ≡ L.parts) × (0 < L.parts) }
     // 0: the input was read to its end, and each request of it was answered as if its organisation were alone.
     ensures done { result ≡ Status.Done → IsAnswered (I.left input.old) (I.left input.new) (U.gained output.old) (U.gained output.new) }
     // 2: exactly where the words are no command.
@@ -46,63 +56,95 @@ pub fn once<I: Source, U: Sink, N: Sink>(
     // 4: only where a write failed; a front of the replies to some first messages was written.
     ensures write_fault { result ≡ Status.WriteFault → IsCutShort (I.left input.old) (U.gained output.old) (U.gained output.new) }
     ensures write_cause { result ≡ Status.WriteFault → Rose (U.faults output.old) (U.faults output.new) }
-    // 8: the whole messages were answered, and what follows them isn't nothing and is no message.
-    ensures not_a_message { result ≡ Status.NotAMessage → IsAnsweredToRest (I.left input.old) (U.gained output.old) (U.gained output.new) }
+    // 8: the whole messages were answered, and what follows them, at the place that is told, isn't nothing and is no message.
+    ensures not_a_message { (place : ℕ) → result ≡ Status.NotAMessage place → IsAnsweredToRest place (I.left input.old) (U.gained output.old) (U.gained output.new) }
     // 2 and 7: nothing was read or written.
     ensures nothing { (result ≡ Status.Usage) ⊎ (result ≡ Status.NoMemory) → (I.left input.new ≡ I.left input.old) × (U.gained output.new ≡ U.gained output.old) }
     ensures rest { TellsRest result (I.left input.old) }
     ensures complete { IsCommand words.now → IsComplete result (I.left input.old) (I.faults input.old) (I.faults input.new) (U.faults output.old) (U.faults output.new) }
-    ensures notes { notes.new ≡ notes.old }
+    // At 0 nothing is noted, and else one line, or a front of it where that write failed.
+    ensures notes { IsNoted result (N.gained notes.old) (N.gained notes.new) (N.faults notes.old) (N.faults notes.new) }
+    ensures quiet { result ≡ Status.Done → notes.new ≡ notes.old }
 {
-    let _notes = notes;
+    let mut steps: Steps<L> = Steps::begin(blank);
+    let status = perform(alloc, words, input, output, &mut steps);
+    note(notes, status);
+    status
+}
+
+fn perform<I: Source, U: Sink, L: Ledger>(
+    alloc: Global,
+    words: &[Text],
+    input: &mut I,
+    output: &mut U,
+    steps: &mut Steps<L>,
+) -> Status
+    ensures says { Says result (I.left input.old) (I.left input.new) (U.gained output.old) (U.gained output.new) }
+    ensures cause { HasStatusCause result (I.faults input.old) (I.faults input.new) (U.faults output.old) (U.faults output.new) }
+    ensures usage { (result ≡ Status.Usage) ↔ ¬ (IsCommand words.now) }
+    ensures rest { TellsRest result (I.left input.old) }
+    ensures complete { IsCommand words.now → IsComplete result (I.left input.old) (I.faults input.old) (I.faults input.new) (U.faults output.old) (U.faults output.new) }
+{
     if is_command(words) {
-        answer(alloc, input, output)
+        answer(alloc, input, output, steps)
     } else {
         Status::Usage
     }
 }
 
-/// Runs the command that the words name.
-pub fn run<I: Source, U: Sink, N: Sink>(
+/// Runs the command that the words name, and notes why it ended.
+pub fn run<I: Source, U: Sink, N: Sink, L: Ledger>(
     alloc: Global,
     words: &[Text],
     input: &mut I,
     output: &mut U,
     notes: &mut N,
+    blank: Blank,
 ) -> Status
+    requires ledger { (blank.name ≡ L.name) × (blank.parts ≡ L.parts) × (0 < L.parts) }
     ensures done { result ≡ Status.Done → IsAnswered (I.left input.old) (I.left input.new) (U.gained output.old) (U.gained output.new) }
     ensures usage { (result ≡ Status.Usage) ↔ ¬ (IsCommand words.now) }
     ensures read_fault { result ≡ Status.ReadFault → IsAnsweredUpTo (I.left input.old) (I.left input.new) (U.gained output.old) (U.gained output.new) }
     ensures read_cause { result ≡ Status.ReadFault → Rose (I.faults input.old) (I.faults input.new) }
     ensures write_fault { result ≡ Status.WriteFault → IsCutShort (I.left input.old) (U.gained output.old) (U.gained output.new) }
     ensures write_cause { result ≡ Status.WriteFault → Rose (U.faults output.old) (U.faults output.new) }
-    ensures not_a_message { result ≡ Status.NotAMessage → IsAnsweredToRest (I.left input.old) (U.gained output.old) (U.gained output.new) }
+    ensures not_a_message { (place : ℕ) → result ≡ Status.NotAMessage place → IsAnsweredToRest place (I.left input.old) (U.gained output.old) (U.gained output.new) }
     ensures nothing { (result ≡ Status.Usage) ⊎ (result ≡ Status.NoMemory) → (I.left input.new ≡ I.left input.old) × (U.gained output.new ≡ U.gained output.old) }
     ensures rest { TellsRest result (I.left input.old) }
     ensures complete { IsCommand words.now → IsComplete result (I.left input.old) (I.faults input.old) (I.faults input.new) (U.faults output.old) (U.faults output.new) }
-    ensures notes { notes.new ≡ notes.old }
+    ensures notes { IsNoted result (N.gained notes.old) (N.gained notes.new) (N.faults notes.old) (N.faults notes.new) }
+    ensures quiet { result ≡ Status.Done → notes.new ≡ notes.old }
 {
-    once(alloc, words, input, output, notes)
+    once::<I, U, N, L>(alloc, words, input, output, notes, blank)
 }
 
 fn main(rt: HostRuntime) -> ExitCode {
+    let mut notes = Writing::new(rt.stderr());
     let words = match words_given(&rt) {
         Ok(words) => words,
-        Err(status) => return ExitCode::from(status.code()),
+        Err(status) => return end_before(&mut notes, status),
     };
     let Ok(reader) = BufReader::new(rt.alloc(), rt.stdin()) else {
-        return ExitCode::from(Status::NoMemory.code());
+        return end_before(&mut notes, Status::NoMemory);
     };
     let mut input = Reading::new(reader);
     let mut output = Writing::new(rt.stdout());
-    let mut notes = Writing::new(rt.stderr());
-    let status = run(
+    let status = run::<_, _, _, Brand>(
         rt.alloc(),
         words.as_slice(),
         &mut input,
         &mut output,
         &mut notes,
+        Blank::new(1),
     );
+    ExitCode::from(status.code())
+}
+
+// Ends before anything is run.
+fn end_before<N: Sink>(notes: &mut N, status: Status) -> ExitCode
+    ensures { IsNoted status (N.gained notes.old) (N.gained notes.new) (N.faults notes.old) (N.faults notes.new) }
+{
+    note(notes, status);
     ExitCode::from(status.code())
 }
 

@@ -5,10 +5,13 @@ ghost use Rattle.std.specs.Prelude.{◌≡◌, ℕ, List};
 ghost use Rattle.std.specs.Option.{ForSome};
 ghost use Rattle.chefsite.specs.Organisations.{kept_at};
 
-use doc_tree::{NoMemory, Text};
+use crate::names::{add_name, is_shown};
+use doc_tree::{NoMemory, Steps, Text};
 use indexmap::IndexMap;
-use org_machine::{OrgState, Refusal, Reply, Request};
+use org_machine::{OrgState, Reply, Request, out_of_memory};
 use std::alloc::Global;
+use std::collections::BTreeSet;
+use std::sync::ledger::Ledger;
 
 /// The organisations of one shard, by their names.
 #[derive(Drop)]
@@ -18,12 +21,13 @@ pub struct Shard {
 }
 
 impl Shard {
-    ghost use Rattle.std.specs.Prelude.{None, Some, IfOk, OnOk};
+    ghost use Rattle.std.specs.Prelude.{◌<◌, ◌≤◌, ◌||◌, None, Some, IfOk, OnOk};
     ghost use Rattle.org_machine.specs.Requests.{org_of};
     ghost use Rattle.org_machine.specs.States.{state_in};
     ghost use Rattle.org_machine.specs.Marks.{mark_of, answer, IsLawful};
     ghost use Rattle.org_machine.specs.Serving.{state_then};
     ghost use Rattle.chefsite.specs.Shards.{states_in, HasRoom};
+    ghost use Rattle.chefsite.specs.Listing.{has, adds};
 
     /// A shard without organisations. It takes no memory.
     pub fn new(alloc: Global) -> Shard
@@ -36,7 +40,13 @@ impl Shard {
 
     /// Serves one request of the organisation of this name. What it does leaves every other
     /// organisation's state as it was.
-    pub fn serve(&mut self, alloc: Global, org: &Text, request: &Request) -> Reply
+    pub fn serve<L: Ledger>(
+        &mut self,
+        alloc: Global,
+        org: &Text,
+        request: &Request,
+        steps: &mut Steps<L>,
+    ) -> Reply
         requires { org_of request.now ≡ Some org.now }
         ensures reply { result ≡ answer (mark_of result) request.now (states_in self.old org.now) }
         ensures lawful { IsLawful (mark_of result) request.now (states_in self.old org.now) }
@@ -44,14 +54,41 @@ impl Shard {
             states_in self.new name ≡ state_then name request.now result (states_in self.old name) }
     {
         match self.organisations.get_mut(org) {
-            Some(state) => org_machine::serve(alloc, state, request),
-            None => self.serve_absent(alloc, org, request),
+            Some(state) => org_machine::serve(alloc, state, request, steps),
+            None => self.serve_absent(alloc, org, request, steps),
         }
+    }
+
+    /// Adds the names of the organisations that are there to those of other shards. This is the shard
+    /// of this number, of so many; an organisation that belongs to another isn't looked at.
+    pub fn add_names(
+        &self,
+        alloc: Global,
+        number: usize,
+        count: usize,
+        names: &mut BTreeSet<Text>,
+    ) -> Result<(), NoMemory>
+        requires { (0 < count) × (count ≤ 16) }
+        ensures { OnOk result ((name : List ℕ) →
+            has names.new name ≡ (has names.old name || adds self.now number count name)) }
+    {
+        for (name, state) in &self.organisations {
+            if is_shown(name, state, number, count) {
+                add_name(alloc, name, names)?;
+            }
+        }
+        Ok(())
     }
 
     // An organisation that isn't there is kept only once a request has created it, so what is asked
     // of strangers costs no memory.
-    fn serve_absent(&mut self, alloc: Global, org: &Text, request: &Request) -> Reply
+    fn serve_absent<L: Ledger>(
+        &mut self,
+        alloc: Global,
+        org: &Text,
+        request: &Request,
+        steps: &mut Steps<L>,
+    ) -> Reply
         requires of { org_of request.now ≡ Some org.now }
         requires absent { states_in self.old org.now ≡ None }
         ensures reply { result ≡ answer (mark_of result) request.now (states_in self.old org.now) }
@@ -60,8 +97,8 @@ impl Shard {
             states_in self.new name ≡ state_then name request.now result (states_in self.old name) }
     {
         match self.make_room(alloc, org) {
-            Ok((key, state)) => self.serve_new(alloc, key, state, request),
-            Err(NoMemory) => Refusal::OutOfMemory.reply(),
+            Ok((key, state)) => self.serve_new(alloc, key, state, request, steps),
+            Err(NoMemory) => out_of_memory(),
         }
     }
 
@@ -79,7 +116,14 @@ impl Shard {
     }
 
     // Serves the first request of an organisation, and keeps it if it is there afterwards.
-    fn serve_new(&mut self, alloc: Global, key: Text, state: OrgState, request: &Request) -> Reply
+    fn serve_new<L: Ledger>(
+        &mut self,
+        alloc: Global,
+        key: Text,
+        state: OrgState,
+        request: &Request,
+        steps: &mut Steps<L>,
+    ) -> Reply
         requires of { org_of request.now ≡ Some key }
         requires name { state.name ≡ key }
         requires none { state_in state ≡ None }
@@ -91,7 +135,7 @@ impl Shard {
             states_in self.new name ≡ state_then name request.now result (states_in self.old name) }
     {
         let mut state = state;
-        let reply = org_machine::serve(alloc, &mut state, request);
+        let reply = org_machine::serve(alloc, &mut state, request, steps);
         if state.is_there() {
             let _ = self.organisations.insert(key, state);
         }

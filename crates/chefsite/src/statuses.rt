@@ -16,8 +16,9 @@ pub enum Status {
     WriteFault,
     /// 7: no memory was left to begin with. Nothing was read or written.
     NoMemory,
-    /// 8: what follows the last whole message isn't nothing and is no message.
-    NotAMessage,
+    /// 8: what follows the last whole message isn't nothing and is no message. The place of its first
+    /// byte is counted from the first byte of the input.
+    NotAMessage { place: u64 },
 }
 
 impl Status {
@@ -31,7 +32,7 @@ impl Status {
             Status::ReadFault => 3,
             Status::WriteFault => 4,
             Status::NoMemory => 7,
-            Status::NotAMessage => 8,
+            Status::NotAMessage { place: _ } => 8,
         }
     }
 }

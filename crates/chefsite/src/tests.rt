@@ -89,13 +89,12 @@ impl Stream {
         Ok(())
     }
 
-    // How many bytes of replies the whole messages in this many first bytes have, and whether
-    // nothing follows these messages.
-    fn told_by(&self, count: usize) -> (usize, bool) {
-        let mut found = (0, count == 0);
+    // How many bytes the whole messages in this many first bytes have, and the replies to them.
+    fn told_by(&self, count: usize) -> (usize, usize) {
+        let mut found = (0, 0);
         for (asked, told) in &self.ends {
             if *asked <= count {
-                found = (*told, *asked == count);
+                found = (*asked, *told);
             }
         }
         found
@@ -116,6 +115,7 @@ fn acme(alloc: Global) -> Result<Stream, AllocError> {
 struct Answered {
     status: Status,
     output: Vec<u8>,
+    notes: Vec<u8>,
 }
 
 // What `answer` makes of these bytes, read in pieces, with these reads and writes failing.
@@ -133,10 +133,18 @@ fn ran(
     let mut input = MemSource::new(input.to_vec(alloc)?, piece, reads);
     let mut output = MemSink::new(alloc, writes, 100_000)?;
     let mut notes = MemSink::new(alloc, Vec::new(alloc), 100)?;
-    let status = run(alloc, words.as_slice(), &mut input, &mut output, &mut notes);
+    let status = run::<_, _, _, Brand>(
+        alloc,
+        words.as_slice(),
+        &mut input,
+        &mut output,
+        &mut notes,
+        Blank::new(1),
+    );
     Ok(Answered {
         status,
         output: output.bytes().to_vec(alloc)?,
+        notes: notes.bytes().to_vec(alloc)?,
     })
 }
 
@@ -161,6 +169,7 @@ fn the_worked_stream_is_answered_in_any_pieces(rt: HostRuntime) -> Result<(), Fa
             stream.told.as_slice(),
             "in pieces of {piece}"
         );
+        assert_eq!(rt; ran.notes.len(), 0);
     }
     Ok(())
 }
@@ -193,12 +202,52 @@ fn another_organisation_in_between_changes_nothing(rt: HostRuntime) -> Result<()
     Ok(())
 }
 
+// The operator's listing before, between and after the creations of three organisations.
+#[test]
+fn a_listing_has_the_organisations_that_are_there(rt: HostRuntime) -> Result<(), Fail> {
+    let alloc = rt.alloc();
+    let mut stream = Stream::new(alloc);
+    let cases = [
+        ("", "{}"),
+        ("beta", "{\"beta\":\"/organizations/beta\"}"),
+        (
+            "acme",
+            "{\"acme\":\"/organizations/acme\",\"beta\":\"/organizations/beta\"}",
+        ),
+        (
+            "ample",
+            "{\"acme\":\"/organizations/acme\",\"ample\":\"/organizations/ample\",\"beta\":\"/organizations/beta\"}",
+        ),
+    ];
+    for (org, listed) in cases {
+        if !org.is_empty() {
+            let (asked, told) = first_path(alloc, org, 0)?;
+            stream.push(asked.as_str(), told.as_str())?;
+        }
+        let asked = by_operator(alloc, "GET", "/organizations", "")?;
+        let told = told(alloc, "200 OK", listed)?;
+        stream.push(asked.as_str(), told.as_str())?;
+    }
+    let ran = ran(alloc, &stream.asked, 1000, Vec::new(alloc), Vec::new(alloc))?;
+    assert!(rt; ran.status == Status::Done);
+    assert_eq!(rt; ran.output.as_slice(), stream.told.as_slice());
+    Ok(())
+}
+
 #[test]
 fn refusals_say_why_and_change_nothing(rt: HostRuntime) -> Result<(), Fail> {
     let alloc = rt.alloc();
     let built = ("501 Not Implemented", "{\"error\":[\"not implemented\"]}");
     let found = ("404 Not Found", "{\"error\":[\"not found\"]}");
     let exists = ("409 Conflict", "{\"error\":[\"already exists\"]}");
+    let taken = (
+        "406 Not Acceptable",
+        "{\"error\":[\"api version is not taken\"]}",
+    );
+    let allowed = ("405 Method Not Allowed", "{\"error\":[\"not allowed\"]}");
+    let json = ("400 Bad Request", "{\"error\":[\"body is not JSON\"]}");
+    let name = ("400 Bad Request", "{\"error\":[\"bad field name\"]}");
+    let normal = ("400 Bad Request", "{\"error\":[\"bad field normal\"]}");
     let operator = "X-Ops-UserId: pivotal\r\n";
     let cases = [
         (
@@ -221,46 +270,40 @@ fn refusals_say_why_and_change_nothing(rt: HostRuntime) -> Result<(), Fail> {
             "/organizations/acme/nodes/web1",
             "X-Ops-UserId: pivotal\r\nX-Ops-Server-API-Version: 2\r\n",
             "",
-            built,
+            taken,
         ),
         (
             "GET",
             "/organizations/acme/nodes/web1",
             "X-Ops-UserId: pivotal\r\nX-Ops-Server-API-Version: 1\r\nX-Ops-Server-API-Version: 1\r\n",
             "",
-            built,
+            taken,
         ),
-        ("GET", "/organizations", operator, "", built),
-        ("GET", "/organizations/acme/nodes", operator, "", built),
-        (
-            "DELETE",
-            "/organizations/acme/nodes/web1",
-            operator,
-            "",
-            built,
-        ),
+        ("GET", "/users", operator, "", built),
+        ("GET", "/nowhere", operator, "", found),
+        ("DELETE", "/organizations/acme", operator, "", allowed),
         (
             "POST",
             "/organizations",
             operator,
             "{\"name\":\"ACME\"}",
-            built,
+            name,
         ),
-        ("POST", "/organizations", operator, "{\"name\":", built),
-        ("POST", "/organizations", operator, "", built),
+        ("POST", "/organizations", operator, "{\"name\":", json),
+        ("POST", "/organizations", operator, "", json),
         (
             "POST",
             "/organizations/acme/nodes",
             operator,
-            "{\"name\":\"web2\",\"normal\":{}}",
-            built,
+            "{\"name\":\"web2\",\"normal\":[]}",
+            normal,
         ),
         (
             "POST",
             "/organizations/acme/nodes",
             operator,
             "{\"name\":\"web 2\"}",
-            built,
+            name,
         ),
         ("GET", "/organizations/acme/nodes/none", operator, "", found),
         (
@@ -313,30 +356,50 @@ fn refusals_say_why_and_change_nothing(rt: HostRuntime) -> Result<(), Fail> {
     Ok(())
 }
 
+// The status at what isn't nothing and is no message, and what is noted of it.
+fn no_message_at(alloc: Global, place: usize) -> Result<(Status, String), AllocError> {
+    let place = place as u64;
+    let note = format!(in alloc; "chefsite: not a message at byte {place}\n")?;
+    Ok((Status::NotAMessage { place }, note))
+}
+
 #[test]
 fn a_stream_cut_anywhere_answers_its_whole_messages(rt: HostRuntime) -> Result<(), Fail> {
     let alloc = rt.alloc();
     let stream = acme(alloc)?;
-    for count in 0..stream.asked.len() {
+    let mut bytes = stream.asked.to_vec(alloc)?;
+    bytes.extend_from_slice(b"no head\r\n\r\n")?;
+    for count in 0..bytes.len() + 1 {
         let ran = ran(
             alloc,
-            &stream.asked[..count],
+            &bytes[..count],
             1000,
             Vec::new(alloc),
             Vec::new(alloc),
         )?;
-        let (told, whole) = stream.told_by(count);
-        let expected = if whole {
-            Status::Done
+        let (place, told) = stream.told_by(count);
+        let (expected, note) = if place == count {
+            (Status::Done, String::new(alloc))
         } else {
-            Status::NotAMessage
+            no_message_at(alloc, place)?
         };
         assert!(rt; ran.status == expected, "after {count} bytes");
+        assert_eq!(rt;
+            ran.notes.as_slice(),
+            note.as_bytes(),
+            "after {count} bytes"
+        );
         assert!(rt;
             Some(ran.output.as_slice()) == stream.told.get(..told),
             "after {count} bytes"
         );
     }
+    let ran = ran(alloc, b"GET /", 1000, Vec::new(alloc), Vec::new(alloc))?;
+    assert!(rt; ran.status == Status::NotAMessage { place: 0 });
+    assert_eq!(rt;
+        ran.notes.as_slice(),
+        "chefsite: not a message at byte 0\n".as_bytes()
+    );
     Ok(())
 }
 
@@ -353,13 +416,14 @@ fn a_read_that_fails_leaves_whole_replies(rt: HostRuntime) -> Result<(), Fail> {
             Vec::new(alloc),
         )?;
         let taken = (read as usize - 1) * 50;
-        let (told, _whole) = stream.told_by(taken);
-        let expected = if taken < stream.asked.len() + 50 {
-            Status::ReadFault
+        let (_place, told) = stream.told_by(taken);
+        let (expected, note) = if taken < stream.asked.len() + 50 {
+            (Status::ReadFault, "chefsite: read fault\n")
         } else {
-            Status::Done
+            (Status::Done, "")
         };
         assert!(rt; ran.status == expected, "at read {read}");
+        assert_eq!(rt; ran.notes.as_slice(), note.as_bytes(), "at read {read}");
         assert!(rt;
             Some(ran.output.as_slice()) == stream.told.get(..told),
             "at read {read}"
@@ -381,21 +445,31 @@ fn a_write_that_fails_ends_the_run(rt: HostRuntime) -> Result<(), Fail> {
             Vec::new(alloc),
             vec![in alloc; write]?,
         )?;
-        if ran.status == Status::WriteFault {
+        let note = if ran.status == Status::WriteFault {
             failed = failed.saturating_add(1);
+            "chefsite: write fault\n"
         } else {
             assert!(rt; ran.status == Status::Done, "at write {write}");
-        }
+            ""
+        };
+        assert_eq!(rt; ran.notes.as_slice(), note.as_bytes(), "at write {write}");
         assert!(rt; stream.told.starts_with(&ran.output), "at write {write}");
     }
     assert_eq!(rt; failed, 3);
     Ok(())
 }
 
+// A note that can't be written changes no status.
 #[test]
 fn other_words_are_no_command(rt: HostRuntime) -> Result<(), Fail> {
     let alloc = rt.alloc();
-    for words in ["", "serve", "answer now", "Answer"] {
+    let cases = [
+        ("", 0, 100, "chefsite: usage\n"),
+        ("serve", 1, 100, ""),
+        ("answer now", 0, 9, "chefsite:"),
+        ("Answer", 0, 0, ""),
+    ];
+    for (words, failing, room, note) in cases {
         let mut given = Vec::new(alloc);
         for word in words.split_whitespace() {
             given.push(Text::from_str(alloc, word)?)?;
@@ -406,11 +480,19 @@ fn other_words_are_no_command(rt: HostRuntime) -> Result<(), Fail> {
             Vec::new(alloc),
         );
         let mut output = MemSink::new(alloc, Vec::new(alloc), 100)?;
-        let mut notes = MemSink::new(alloc, Vec::new(alloc), 100)?;
-        let status = once(alloc, given.as_slice(), &mut input, &mut output, &mut notes);
+        let mut notes = MemSink::new(alloc, vec![in alloc; failing]?, room)?;
+        let status = once::<_, _, _, Brand>(
+            alloc,
+            given.as_slice(),
+            &mut input,
+            &mut output,
+            &mut notes,
+            Blank::new(1),
+        );
         assert!(rt; status == Status::Usage);
         assert_eq!(rt; status.code(), 2);
         assert_eq!(rt; output.bytes().len(), 0);
+        assert_eq!(rt; notes.bytes(), note.as_bytes(), "at words {words}");
     }
     Ok(())
 }

@@ -6,8 +6,8 @@ use Rattle.doc_tree.specs.Read.{reads}
 use Rattle.doc_tree.specs.declared.read.ReadFault.{ReadFault}
 use Rattle.org_machine.specs.declared.requests.Body.{Body}
 use Rattle.org_machine.specs.declared.requests.Body.TheVariants.{Empty, Doc as Read, Bad, TooLong}
-use Rattle.org_machine.specs.declared.requests.Verb.{Verb}
-use Rattle.org_machine.specs.declared.requests.Verb.TheVariants.{Get, Post, Put, Delete, Other}
+use Rattle.route_table.specs.declared.verbs.Verb.{Verb}
+use Rattle.route_table.specs.declared.verbs.Verb.TheVariants.{Get, Post, Put, Delete, Other}
 
 -- the most bytes of a body that is looked at
 abbrev pub most_body : ℕ

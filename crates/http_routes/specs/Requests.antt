@@ -1,13 +1,14 @@
 -- The request that the parts of a message spell.
 use Rattle.std.specs.Prelude.{ℕ, List}
 use Rattle.org_machine.specs.declared.requests.Request.{Request}
-use Rattle.org_machine.specs.declared.requests.Verb.{Verb}
+use Rattle.route_table.specs.declared.verbs.Verb.{Verb}
 use Rattle.org_machine.specs.declared.requests.Body.{Body}
 use Rattle.http_routes.specs.declared.requests.Head.{Head}
 use Rattle.http_routes.specs.Verbs.{verb_named}
 use Rattle.http_routes.specs.Headers.{caller_in, api_in}
 use Rattle.http_routes.specs.Targets.{target_segments}
 use Rattle.http_routes.specs.Bodies.{body_in}
+use Rattle.http_routes.specs.Parameters.{parameters_in}
 use Rattle.http_routes.specs.Places.{place_of}
 
 -- the request, by its verb and its body
@@ -17,6 +18,7 @@ request_with verb target callers versions body = record {
   api = api_in versions;
   verb = verb;
   place = place_of verb body (target_segments target);
+  asked = parameters_in target;
   body = body;
 }
 
@@ -32,6 +34,7 @@ head_in method target callers versions = record {
   caller = caller_in callers;
   api = api_in versions;
   segments = target_segments target;
+  asked = parameters_in target;
 }
 
 -- the request of a head and a body
@@ -41,5 +44,6 @@ request_of head body = record {
   api = head.api;
   verb = head.verb;
   place = place_of head.verb body head.segments;
+  asked = head.asked;
   body = body;
 }

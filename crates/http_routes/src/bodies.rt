@@ -4,7 +4,8 @@ ghost use Rattle.http_routes.specs.Bodies.{body_from, short_body};
 ghost use Rattle.std.specs.Prelude.{◌≡◌, IfOk};
 
 use doc_tree::{NoMemory, ReadFault, read_json};
-use org_machine::{Body, Verb};
+use org_machine::Body;
+use route_table::Verb;
 use std::alloc::Global;
 
 /// The body of a message, by its verb: JSON where that is POST or PUT, and else dropped.

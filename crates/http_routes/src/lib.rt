@@ -3,6 +3,7 @@
 
 mod bodies;
 mod headers;
+mod parameters;
 mod places;
 mod requests;
 mod targets;
@@ -10,6 +11,7 @@ mod verbs;
 
 pub use bodies::body_of;
 pub use headers::{HeaderValue, api_of, caller_of};
+pub use parameters::parameters_of;
 pub use places::place_of;
 pub use requests::Head;
 pub use targets::segments_of;

@@ -1,18 +1,20 @@
-//! The routes that are built, by the segments of a path.
-ghost use Rattle.http_routes.specs.Places.{below_nodes, below_organisation, below_organisations, organisation_in_body, organisations, place_at, place_of};
-ghost use Rattle.std.specs.Prelude.{◌≡◌, IfOk, option_copied};
+//! Where a path points, by its segments and the table of routes.
+ghost use Rattle.http_routes.specs.Places.{first_of, organisation_in_body, organisations, place_at, place_found, place_of, place_within, rest_of, route_at};
+ghost use Rattle.std.specs.Prelude.{◌≡◌, IfOk, Some, option_copied};
 ghost use Rattle.std.specs.Vec.Iter.{into_iter_items};
 
 use doc_tree::{NoMemory, Text, Texts, Tree, is_organisation_name};
-use org_machine::{Body, NodesRoute, OrganisationRoute, Place, Route, Verb};
+use org_machine::{Body, Collection, DataRoute, ObjectsRoute, OrganisationRoute, Place, Route};
+use route_table::{Path, Routes, Verb, is_left_out};
 use std::alloc::Global;
 use std::vec::IntoIter;
 
-/// The place that the segments of a path name, which are moved into it. A path that has no
-/// segments, `None`, names none that is built. A POST to `/organizations` is of the organisation
-/// that its body names, where it names one.
+/// The place that the segments of a path name, which are moved into it: the path of the table of
+/// routes, with the names in it. A path that has no segments, `None`, has no route. A POST to
+/// `/organizations` is of the organisation that its body names, where it names one.
 pub fn place_of(
     alloc: Global,
+    routes: &Routes,
     verb: Verb,
     body: &Body,
     segments: Option<Texts>,
@@ -20,8 +22,26 @@ pub fn place_of(
     ensures { IfOk result (λ place. place ≡ place_of verb body.now segments) }
 {
     match segments {
-        Some(segments) => place_at(alloc, verb, body, segments.into_vec().into_iter()),
-        None => Ok(Place::NotBuilt),
+        Some(segments) => place_in(alloc, routes, verb, body, segments),
+        None => Ok(Place::NoRoute),
+    }
+}
+
+fn place_in(
+    alloc: Global,
+    routes: &Routes,
+    verb: Verb,
+    body: &Body,
+    segments: Texts,
+) -> Result<Place, NoMemory>
+    ensures { IfOk result (λ place. place ≡ place_of verb body.now (Some segments)) }
+{
+    if is_left_out(segments.as_slice()) {
+        return Ok(Place::LeftOut);
+    }
+    match routes.find(alloc, segments.as_slice())? {
+        Some(path) => place_at(alloc, verb, body, segments, path),
+        None => Ok(Place::NoRoute),
     }
 }
 
@@ -29,29 +49,15 @@ fn place_at(
     alloc: Global,
     verb: Verb,
     body: &Body,
-    mut segments: IntoIter<Text>,
+    segments: Texts,
+    path: Path,
 ) -> Result<Place, NoMemory>
-    ensures { IfOk result (λ place. place ≡ place_at verb body.now (into_iter_items segments)) }
+    ensures { IfOk result (λ place. place ≡ place_at verb body.now segments path) }
 {
-    match segments.next() {
-        Some(first) if first.as_str() == "organizations" => below_organisations(
-            alloc, verb, body, segments,
-        ),
-        _ => Ok(Place::NotBuilt),
-    }
-}
-
-fn below_organisations(
-    alloc: Global,
-    verb: Verb,
-    body: &Body,
-    mut segments: IntoIter<Text>,
-) -> Result<Place, NoMemory>
-    ensures { IfOk result (λ place. place ≡ below_organisations verb body.now (into_iter_items segments)) }
-{
-    match segments.next() {
-        Some(org) => Ok(below_organisation(org, segments)),
-        None => organisations(alloc, verb, body),
+    if path == Path::Organisations {
+        organisations(alloc, verb, body)
+    } else {
+        Ok(place_within(alloc, path, segments.into_vec().into_iter()))
     }
 }
 
@@ -79,27 +85,50 @@ fn organisation_in(body: &Body) -> Option<&str>
     }
 }
 
-fn below_organisation(org: Text, mut segments: IntoIter<Text>) -> Place
-    ensures { result ≡ below_organisation org (into_iter_items segments) }
+/// The place of `/organizations/ORG/COLLECTION/NAME/ID`, of which the path may have only the first
+/// segments.
+fn place_within(alloc: Global, path: Path, mut segments: IntoIter<Text>) -> Place
+    ensures { result ≡ place_within path (into_iter_items segments) }
 {
-    match segments.next() {
-        Some(group) if group.as_str() == "nodes" => below_nodes(org, segments),
-        _ => Place::NotBuilt,
+    let _organisations = next(alloc, &mut segments);
+    let org = next(alloc, &mut segments);
+    let _collection = next(alloc, &mut segments);
+    let name = next(alloc, &mut segments);
+    let id = next(alloc, &mut segments);
+    Place::Of {
+        org,
+        route: route_at(path, name, id),
     }
 }
 
-fn below_nodes(org: Text, mut segments: IntoIter<Text>) -> Place
-    ensures { result ≡ below_nodes org (into_iter_items segments) }
+/// The next segment, or an empty text behind the last.
+fn next(alloc: Global, segments: &mut IntoIter<Text>) -> Text
+    ensures first { result ≡ first_of (into_iter_items segments.old) }
+    ensures rest { into_iter_items segments.new ≡ rest_of (into_iter_items segments.old) }
 {
-    let route = match segments.next() {
-        None => NodesRoute::All,
-        Some(name) => NodesRoute::One(name),
-    };
     match segments.next() {
-        None => Place::Of {
-            org,
-            route: Route::Nodes(route),
-        },
-        Some(_) => Place::NotBuilt,
+        Some(segment) => segment,
+        None => Text::of(String::new(alloc)),
+    }
+}
+
+/// The route that a path of the table stands for, with the names of an object and of an item in it.
+fn route_at(path: Path, name: Text, id: Text) -> Route
+    ensures { result ≡ route_at path name id }
+{
+    match path {
+        Path::Organisation => Route::Organisation(OrganisationRoute::Whole),
+        Path::Nodes => Route::Objects(Collection::Nodes, ObjectsRoute::All),
+        Path::Node => Route::Objects(Collection::Nodes, ObjectsRoute::One(name)),
+        Path::Roles => Route::Objects(Collection::Roles, ObjectsRoute::All),
+        Path::Role => Route::Objects(Collection::Roles, ObjectsRoute::One(name)),
+        Path::Environments => Route::Objects(Collection::Environments, ObjectsRoute::All),
+        Path::Environment => Route::Objects(Collection::Environments, ObjectsRoute::One(name)),
+        Path::Clients => Route::Objects(Collection::Clients, ObjectsRoute::All),
+        Path::Client => Route::Objects(Collection::Clients, ObjectsRoute::One(name)),
+        Path::DataBags => Route::Data(DataRoute::Bags),
+        Path::DataBag => Route::Data(DataRoute::Bag(name)),
+        Path::DataBagItem => Route::Data(DataRoute::Item(name, id)),
+        path => Route::NotBuilt(path),
     }
 }

@@ -2,7 +2,7 @@
 use Rattle.std.specs.Prelude.{◌≡◌, ℕ, List, codes}
 use Rattle.httparse.specs.Grammar.{RequestHead}
 use Rattle.org_machine.specs.declared.requests.Place.{Place}
-use Rattle.org_machine.specs.declared.requests.Place.TheVariants.{Of, Organisations, NotBuilt, NoMemory}
+use Rattle.org_machine.specs.declared.requests.Place.TheVariants.{Of, Organisations, LeftOut, NoRoute, NoMemory}
 use Rattle.org_machine.specs.declared.requests.Request.{Request}
 use Rattle.http_routes.specs.Requests.{request_from}
 use Rattle.http_wire.specs.Fields.{values_named}
@@ -24,7 +24,8 @@ request_of m = request_from m.head.method m.head.target (callers_in m.head) (ver
 abbrev pub IsReadAt : Place → Request → Request → Type 0
 IsReadAt (Of org route) read spelled = read ≡ spelled
 IsReadAt Organisations read spelled = read ≡ spelled
-IsReadAt NotBuilt read spelled = read ≡ spelled
+IsReadAt LeftOut read spelled = read ≡ spelled
+IsReadAt NoRoute read spelled = read ≡ spelled
 IsReadAt NoMemory read spelled = Unit {0}
 
 -- a request that was read stands for the one that its bytes spell

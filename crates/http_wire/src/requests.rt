@@ -4,7 +4,7 @@ ghost use Rattle.httparse.specs.Grammar.{RequestHead};
 ghost use Rattle.httparse.specs.Spans.{IsRequestAt, IsRequestWithin};
 ghost use Rattle.http_routes.specs.declared.requests.Head.{Head as Said};
 ghost use Rattle.http_routes.specs.Bodies.{body_in};
-ghost use Rattle.http_routes.specs.Requests as routes;
+ghost use Rattle.http_routes.specs.Requests as spelled;
 ghost use Rattle.http_wire.specs.Bodies.{IsBody};
 ghost use Rattle.http_wire.specs.Faults.{OnNotAMessage, OnReadFault, NoneBeginsIn, HasReadCause};
 ghost use Rattle.http_wire.specs.Frames.{IsFramed};
@@ -22,8 +22,9 @@ use crate::room::Room;
 use doc_tree::NoMemory;
 use http_routes::{Head, body_of};
 use httparse::spans::{EMPTY_HEADER_SPAN, HeaderSpan, RequestSpans};
-use org_machine::{Body, Place, Request, Verb};
+use org_machine::{Body, Parameters, Place, Request};
 use outside_core::Source;
+use route_table::{Routes, Verb};
 use std::alloc::Global;
 
 /// Reads the next message of a stream to its end, as the request that it spells. `None` is the end
@@ -77,7 +78,7 @@ fn read_framed<S: Source>(
 {
     let head = read_parts(alloc, room.held(), headers, frame.spans);
     let body = end_message(alloc, room, source, frame.spans.len, frame.size)?;
-    Ok(request_from(alloc, head, body))
+    Ok(request_from(alloc, room.routes(), head, body))
 }
 
 // What the head says of the request, copied out of the room, which the body may need.
@@ -89,7 +90,7 @@ fn read_parts(
 ) -> Result<Head, NoMemory>
     requires { IsRequestWithin held.now headers.now spans }
     ensures { (head : RequestHead) → IsRequestAt held.now headers.now spans head
-        → IfOk result (λ said. said ≡ routes.head_in head.method head.target (callers_in head) (versions_in head)) }
+        → IfOk result (λ said. said ≡ spelled.head_in head.method head.target (callers_in head) (versions_in head)) }
 {
     let headers = &headers[..spans.headers];
     let caller = value_named(held, headers, b"x-ops-userid");
@@ -104,32 +105,37 @@ fn read_parts(
 }
 
 // The request of a head and a body, or one without a place where memory was wanting for either.
-fn request_from(alloc: Global, head: Result<Head, NoMemory>, body: KeptBody) -> Request
+fn request_from(
+    alloc: Global,
+    routes: &Routes,
+    head: Result<Head, NoMemory>,
+    body: KeptBody,
+) -> Request
     ensures { (said : Said) (bytes : List ℕ) → IfOk head (λ h. h ≡ said) → IsBody (length bytes) bytes body
-        → IsRead result (routes.request_of said (body_in said.verb bytes)) }
+        → IsRead result (spelled.request_of said (body_in said.verb bytes)) }
 {
     match head {
-        Ok(head) => request_with(alloc, head, body),
-        Err(NoMemory) => lost(),
+        Ok(head) => request_with(alloc, routes, head, body),
+        Err(NoMemory) => lost(alloc),
     }
 }
 
-fn request_with(alloc: Global, head: Head, body: KeptBody) -> Request
+fn request_with(alloc: Global, routes: &Routes, head: Head, body: KeptBody) -> Request
     ensures { (bytes : List ℕ) → IsBody (length bytes) bytes body
-        → IsRead result (routes.request_of head (body_in head.verb bytes)) }
+        → IsRead result (spelled.request_of head (body_in head.verb bytes)) }
 {
     match parsed(alloc, head.verb(), body) {
-        Ok(body) => placed(alloc, head, body),
-        Err(NoMemory) => lost(),
+        Ok(body) => placed(alloc, routes, head, body),
+        Err(NoMemory) => lost(alloc),
     }
 }
 
-fn placed(alloc: Global, head: Head, body: Body) -> Request
-    ensures { IsRead result (routes.request_of head body) }
+fn placed(alloc: Global, routes: &Routes, head: Head, body: Body) -> Request
+    ensures { IsRead result (spelled.request_of head body) }
 {
-    match head.with_body(alloc, body) {
+    match head.with_body(alloc, routes, body) {
         Ok(request) => request,
-        Err(NoMemory) => lost(),
+        Err(NoMemory) => lost(alloc),
     }
 }
 
@@ -145,7 +151,7 @@ fn parsed(alloc: Global, verb: Verb, body: KeptBody) -> Result<Body, NoMemory>
 }
 
 // A request whose parts found no memory.
-fn lost() -> Request
+fn lost(alloc: Global) -> Request
     ensures { result.place ≡ Place.NoMemory }
 {
     Request {
@@ -153,6 +159,7 @@ fn lost() -> Request
         api: None,
         verb: Verb::Other,
         place: Place::NoMemory,
+        asked: Parameters::new(alloc),
         body: Body::Empty,
     }
 }

@@ -5,14 +5,17 @@ ghost use Rattle.http_wire.specs.Faults.{OnNotAMessage, HasReadCause};
 ghost use Rattle.http_wire.specs.Room.{stream};
 
 use crate::faults::WireFault;
+use doc_tree::NoMemory;
 use outside_core::{Failed, Source};
-use std::alloc::{AllocError, Global};
+use route_table::Routes;
+use std::alloc::Global;
 use std::marker::Model;
 
 /// How many bytes a room holds: as many as a message's head may have.
 const CAPACITY: usize = 16_384;
 
-/// Room for the bytes that were read of a stream and not yet used.
+/// Room for the bytes that were read of a stream and not yet used, and the router by which its
+/// requests find their routes: both are made once a stream.
 ///
 /// A room is for one stream, from its first byte on. What it holds behind a message is the front of
 /// the next one. Contracts see it as the bytes held and their place in the stream.
@@ -22,6 +25,7 @@ pub struct Room {
     start: usize,
     count: usize,
     place: u64,
+    routes: Routes,
 }
 
 impl Model for Room {
@@ -37,7 +41,7 @@ impl Model for Room {
 
 impl Room {
     /// Room for a stream of which nothing was read.
-    pub fn take(alloc: Global) -> Result<Self, AllocError>
+    pub fn take(alloc: Global) -> Result<Self, NoMemory>
         ensures { IfOk result (λ room. room ≡ record { held = []; place = 0 }) }
     {
         Ok(Room {
@@ -45,7 +49,13 @@ impl Room {
             start: 0,
             count: 0,
             place: 0,
+            routes: Routes::take(alloc)?,
         })
+    }
+
+    /// The router over the table of routes.
+    pub(crate) fn routes(&self) -> &Routes {
+        &self.routes
     }
 
     /// The bytes that were read and not yet used.

@@ -1,9 +1,10 @@
 // Messages in pieces, what is no message, and the bytes of replies.
 use super::*;
-use doc_tree::Bytes;
-use org_machine::{Body, NodesRoute, Place, Reply, Request, Route, Verb};
+use doc_tree::{Bytes, NoMemory};
+use org_machine::{Body, Collection, ObjectsRoute, Place, Reply, Request, Route};
 use outside_core::{Buffered, MemSink, MemSource};
-use std::alloc::{AllocError, Global};
+use route_table::Verb;
+use std::alloc::Global;
 use std::test::Fail;
 
 const TWO: &str =
@@ -14,23 +15,66 @@ fn source(
     text: &[u8],
     piece: usize,
     failing: Vec<u64>,
-) -> Result<MemSource, AllocError> {
+) -> Result<MemSource, NoMemory> {
     Ok(MemSource::new(text.to_vec(alloc)?, piece.max(1), failing))
 }
 
-fn place(request: &Request) -> (&str, &str) {
-    match &request.place {
-        Place::Of { org, route } => match route {
-            Route::Nodes(NodesRoute::All) => (org.as_str(), "nodes"),
-            Route::Nodes(NodesRoute::One(name)) => (org.as_str(), name.as_str()),
-            Route::Organisation(_) => (org.as_str(), ""),
-        },
-        _ => ("", ""),
+// Where a request goes: the organisation, and the node or the collection.
+fn place(place: &Place) -> (&str, &str) {
+    match place {
+        Place::Of { org, route } => (org.as_str(), node(route)),
+        _ => ("none", "none"),
     }
 }
 
-fn caller(request: &Request) -> Option<&str> {
-    request.caller.as_ref().map(|name| name.as_str())
+fn node(route: &Route) -> &str {
+    match route {
+        Route::Objects(Collection::Nodes, ObjectsRoute::All) => "nodes",
+        Route::Objects(Collection::Nodes, ObjectsRoute::One(name)) => name.as_str(),
+        _ => "none",
+    }
+}
+
+fn verb(verb: Verb) -> &'static str {
+    match verb {
+        Verb::Get => "GET",
+        Verb::Post => "POST",
+        Verb::Put => "PUT",
+        Verb::Delete => "DELETE",
+        Verb::Other => "other",
+    }
+}
+
+fn body(body: &Body) -> &'static str {
+    match body {
+        Body::Empty => "empty",
+        Body::Doc(_) => "doc",
+        Body::Bad(_) => "bad",
+        Body::TooLong => "too long",
+    }
+}
+
+// A request in words: verb, organisation, node, caller, version and body.
+fn described(alloc: Global, request: Request) -> Result<String, NoMemory> {
+    let verb = verb(request.verb);
+    let (org, node) = place(&request.place);
+    let caller = request
+        .caller
+        .as_ref()
+        .map_or("nobody", |name| name.as_str());
+    let api = request.api.unwrap_or(9);
+    let body = body(&request.body);
+    Ok(format!(in alloc; "{verb} {org} {node} {caller} {api} {body}")?)
+}
+
+// The next message in words, or why there is none.
+fn next(alloc: Global, input: &mut MemSource, room: &mut Room) -> Result<String, NoMemory> {
+    match read_message(alloc, input, room) {
+        Ok(Some(request)) => described(alloc, request),
+        Ok(None) => Ok(String::from_str(alloc, "end")?),
+        Err(WireFault::ReadFault) => Ok(String::from_str(alloc, "read fault")?),
+        Err(WireFault::NotAMessage { place }) => Ok(format!(in alloc; "no message at {place}")?),
+    }
 }
 
 #[test]
@@ -39,86 +83,91 @@ fn requests_come_in_pieces_of_any_size(rt: HostRuntime) -> Result<(), Fail> {
     for piece in [1, 2, 7, 1000] {
         let mut input = source(alloc, TWO.as_bytes(), piece, Vec::new(alloc))?;
         let mut room = Room::take(alloc)?;
-        let first = read_message(alloc, &mut input, &mut room)?.ok_or("no first message")?;
-        assert!(rt; first.verb == Verb::Post);
-        assert_eq!(rt; place(&first), ("acme", "nodes"));
-        assert_eq!(rt; caller(&first), Some("pivotal"));
-        assert!(rt; matches!(first.body, Body::Doc(_)));
-        let second = read_message(alloc, &mut input, &mut room)?.ok_or("no second message")?;
-        assert!(rt; second.verb == Verb::Get);
-        assert_eq!(rt; place(&second), ("acme", "web1"));
-        assert_eq!(rt; caller(&second), None);
-        assert_eq!(rt; second.api, Some(1));
-        assert!(rt; read_message(alloc, &mut input, &mut room)?.is_none());
+        for expected in [
+            "POST acme nodes pivotal 0 doc",
+            "GET acme web1 nobody 1 empty",
+            "end",
+        ] {
+            let told = next(alloc, &mut input, &mut room)?;
+            assert_eq!(rt; told.as_str(), expected, "in pieces of {piece}");
+        }
     }
     Ok(())
 }
 
-// The place at which no message begins, behind those that do.
-fn no_message(alloc: Global, text: &[u8], piece: usize) -> Result<Option<u64>, AllocError> {
+// How a stream ends, behind its whole messages.
+fn end(alloc: Global, text: &[u8], piece: usize) -> Result<String, NoMemory> {
     let mut input = source(alloc, text, piece, Vec::new(alloc))?;
     let mut room = Room::take(alloc)?;
     for _ in 0..100 {
-        match read_message(alloc, &mut input, &mut room) {
-            Ok(Some(_)) => {}
-            Err(WireFault::NotAMessage { place }) => return Ok(Some(place)),
-            _ => return Ok(None),
+        let told = next(alloc, &mut input, &mut room)?;
+        if told.as_str() == "end" || told.as_str().starts_with("no message") {
+            return Ok(told);
         }
     }
-    Ok(None)
+    Ok(String::new(alloc))
 }
 
 #[test]
 fn the_place_of_what_is_no_message_is_told(rt: HostRuntime) -> Result<(), Fail> {
     let cases = [
-        ("GET / HTTP/1.1\r\n\r\n", None),
+        ("GET / HTTP/1.1\r\n\r\n", "end"),
         (
             "GET / HTTP/1.1\r\nContent-Length: 00000000000000000000\r\n\r\n",
-            None,
+            "end",
         ),
         (
             "GET / HTTP/1.1\r\nTransfer-Encoding: chunked\r\n\r\n0\r\n\r\n",
-            Some(0),
+            "no message at 0",
         ),
         (
             "GET / HTTP/1.1\r\n\r\nGET / HTTP/1.1\r\nTRANSFER-encoding:\r\n\r\n",
-            Some(18),
+            "no message at 18",
         ),
         (
             "GET / HTTP/1.1\r\nContent-Length: 1\r\ncontent-length: 1\r\n\r\nx",
-            Some(0),
+            "no message at 0",
         ),
-        ("GET / HTTP/1.1\r\nContent-Length: +1\r\n\r\nx", Some(0)),
-        ("GET / HTTP/1.1\r\nContent-Length:\r\n\r\n", Some(0)),
+        (
+            "GET / HTTP/1.1\r\nContent-Length: +1\r\n\r\nx",
+            "no message at 0",
+        ),
+        (
+            "GET / HTTP/1.1\r\nContent-Length:\r\n\r\n",
+            "no message at 0",
+        ),
         (
             "GET / HTTP/1.1\r\nContent-Length: 000000000000000000001\r\n\r\nx",
-            Some(0),
+            "no message at 0",
         ),
         (
             "GET / HTTP/1.1\r\nContent-Length: 67108865\r\n\r\n",
-            Some(0),
+            "no message at 0",
         ),
         (
             "GET / HTTP/1.1\r\n\r\nGET / HTTP/1.1\r\nContent-Length: 2\r\n\r\nx",
-            Some(18),
+            "no message at 18",
         ),
-        ("GET / HTTP/1.1\r\n\r\nGET / HTTP/1.1\r\n", Some(18)),
-        ("GET / HTTP/1.1\r\n\r\n\r\n\r\n", Some(18)),
-        ("GET / HTTP/2.0\r\n\r\n", Some(0)),
-        ("GET /a b HTTP/1.1\r\n\r\n", Some(0)),
-        ("hello", Some(0)),
+        (
+            "GET / HTTP/1.1\r\n\r\nGET / HTTP/1.1\r\n",
+            "no message at 18",
+        ),
+        ("GET / HTTP/1.1\r\n\r\n\r\n\r\n", "no message at 18"),
+        ("GET / HTTP/2.0\r\n\r\n", "no message at 0"),
+        ("GET /a b HTTP/1.1\r\n\r\n", "no message at 0"),
+        ("hello", "no message at 0"),
     ];
     for (text, expected) in cases {
         for piece in [1, 1000] {
-            let place = no_message(rt.alloc(), text.as_bytes(), piece)?;
-            assert_eq!(rt; place, expected, "at {text}");
+            let told = end(rt.alloc(), text.as_bytes(), piece)?;
+            assert_eq!(rt; told.as_str(), expected, "at {text}");
         }
     }
     Ok(())
 }
 
 // A message whose head has this many bytes, at least 23.
-fn head_of_size(alloc: Global, size: usize) -> Result<Vec<u8>, AllocError> {
+fn head_of_size(alloc: Global, size: usize) -> Result<Vec<u8>, NoMemory> {
     let mut text = b"GET / HTTP/1.1\r\nA: ".to_vec(alloc)?;
     text.extend_from_slice(&vec![in alloc; b'a'; size.saturating_sub(23)]?)?;
     text.extend_from_slice(b"\r\n\r\n")?;
@@ -128,16 +177,16 @@ fn head_of_size(alloc: Global, size: usize) -> Result<Vec<u8>, AllocError> {
 #[test]
 fn a_head_has_at_most_16384_bytes(rt: HostRuntime) -> Result<(), Fail> {
     let alloc = rt.alloc();
-    for (size, expected) in [(16384, None), (16385, Some(0))] {
+    for (size, expected) in [(16384, "end"), (16385, "no message at 0")] {
         let text = head_of_size(alloc, size)?;
         assert_eq!(rt; text.len(), size);
-        assert_eq!(rt; no_message(alloc, &text, 1000)?, expected);
+        assert_eq!(rt; end(alloc, &text, 1000)?.as_str(), expected);
     }
     Ok(())
 }
 
 // A message with this many headers.
-fn headers_of_count(alloc: Global, count: usize) -> Result<Vec<u8>, AllocError> {
+fn headers_of_count(alloc: Global, count: usize) -> Result<Vec<u8>, NoMemory> {
     let mut text = b"GET / HTTP/1.1\r\n".to_vec(alloc)?;
     for _ in 0..count {
         text.extend_from_slice(b"a:b\r\n")?;
@@ -149,9 +198,9 @@ fn headers_of_count(alloc: Global, count: usize) -> Result<Vec<u8>, AllocError> 
 #[test]
 fn a_head_has_at_most_64_headers(rt: HostRuntime) -> Result<(), Fail> {
     let alloc = rt.alloc();
-    for (count, expected) in [(64, None), (65, Some(0))] {
+    for (count, expected) in [(64, "end"), (65, "no message at 0")] {
         let text = headers_of_count(alloc, count)?;
-        assert_eq!(rt; no_message(alloc, &text, 1000)?, expected);
+        assert_eq!(rt; end(alloc, &text, 1000)?.as_str(), expected);
     }
     Ok(())
 }
@@ -163,14 +212,14 @@ fn a_read_that_fails_is_a_fault_of_reading(rt: HostRuntime) -> Result<(), Fail> 
     for failing in [1, 3, 40] {
         let mut input = source(alloc, text, 1, vec![in alloc; failing]?)?;
         let mut room = Room::take(alloc)?;
-        let read = read_message(alloc, &mut input, &mut room);
-        assert!(rt; matches!(read, Err(WireFault::ReadFault)));
+        let told = next(alloc, &mut input, &mut room)?;
+        assert_eq!(rt; told.as_str(), "read fault");
     }
     Ok(())
 }
 
 // A POST with a body of this many bytes, and then a GET.
-fn body_of_size(alloc: Global, length: &[u8], size: usize) -> Result<Vec<u8>, AllocError> {
+fn body_of_size(alloc: Global, length: &[u8], size: usize) -> Result<Vec<u8>, NoMemory> {
     let mut text = b"POST / HTTP/1.1\r\nContent-Length: ".to_vec(alloc)?;
     text.extend_from_slice(length)?;
     text.extend_from_slice(b"\r\n\r\n")?;
@@ -182,15 +231,17 @@ fn body_of_size(alloc: Global, length: &[u8], size: usize) -> Result<Vec<u8>, Al
 #[test]
 fn a_body_is_kept_up_to_4194304_bytes(rt: HostRuntime) -> Result<(), Fail> {
     let alloc = rt.alloc();
-    for (length, size, is_kept) in [(b"4194304", 4194304, true), (b"4194305", 4194305, false)] {
+    for (length, size, expected) in [
+        (b"4194304", 4194304, "POST none none nobody 0 bad"),
+        (b"4194305", 4194305, "POST none none nobody 0 too long"),
+    ] {
         let text = body_of_size(alloc, length, size)?;
         let mut input = MemSource::new(text, 100000, Vec::new(alloc));
         let mut room = Room::take(alloc)?;
-        let first = read_message(alloc, &mut input, &mut room)?.ok_or("no first message")?;
-        assert!(rt; matches!(first.body, Body::Bad(_)) == is_kept);
-        assert!(rt; first.body.is_too_long() != is_kept);
-        let second = read_message(alloc, &mut input, &mut room)?.ok_or("no second message")?;
-        assert!(rt; second.verb == Verb::Get);
+        let first = next(alloc, &mut input, &mut room)?;
+        assert_eq!(rt; first.as_str(), expected);
+        let second = next(alloc, &mut input, &mut room)?;
+        assert_eq!(rt; second.as_str(), "GET none none nobody 0 empty");
     }
     Ok(())
 }
@@ -201,11 +252,9 @@ fn a_room_tells_whether_it_holds_the_next_message(rt: HostRuntime) -> Result<(),
     let mut input = source(alloc, TWO.as_bytes(), 1000, Vec::new(alloc))?;
     let mut room = Room::take(alloc)?;
     assert!(rt; !room.holds_message());
-    let first = read_message(alloc, &mut input, &mut room)?;
-    assert!(rt; first.is_some());
+    let _first = next(alloc, &mut input, &mut room)?;
     assert!(rt; room.holds_message());
-    let second = read_message(alloc, &mut input, &mut room)?;
-    assert!(rt; second.is_some());
+    let _second = next(alloc, &mut input, &mut room)?;
     assert!(rt; !room.holds_message());
     Ok(())
 }

@@ -1,3 +1,5 @@
 pub mod Going
-pub mod NodeMapLemmas
 pub mod Served
+pub mod ListingLemmas
+pub mod StateLemmas
+pub mod PreparedLemmas

@@ -1,18 +1,20 @@
 -- The isolation theorem's words: to each organisation the replies are those of a small machine that
 -- is given that organisation's requests alone.
-use Rattle.std.specs.Prelude.{◌≡◌, ℕ, List, [], ◌∷◌, ◌++◌, map, filter, Option, Some, None, is_some, bytes_eq}
+use Rattle.std.specs.Prelude.{◌≡◌, Bool, false, cond, ◌&&◌, ℕ, List, [], ◌∷◌, ◌++◌, map, filter, Option, Some, None, is_some, is_none, bytes_eq}
 use Rattle.std.specs.List.{list_any}
 use Rattle.std.specs.List.Sorted.{IsStrictlySortedBy}
-use Rattle.doc_tree.specs.Doc.{words, dict, pairs_of}
+use Rattle.route_table.specs.Verbs.{is_get}
 use Rattle.org_machine.specs.declared.replies.Reply.{Reply}
 use Rattle.org_machine.specs.declared.requests.Request.{Request}
 use Rattle.org_machine.specs.declared.refusals.Refusal.TheVariants.{OutOfMemory}
 use Rattle.org_machine.specs.Requests.{org_of, is_of}
-use Rattle.org_machine.specs.Replies.{shown}
-use Rattle.org_machine.specs.Refusals.{reply_to}
+use Rattle.org_machine.specs.declared.requests.Place.{Place}
+use Rattle.org_machine.specs.declared.requests.Place.TheVariants.{Of, Organisations, LeftOut, NoRoute, NoMemory}
+use Rattle.org_machine.specs.Replies.{shown, paths_behind}
+use Rattle.org_machine.specs.Refusals.{first_some, reply_to}
 use Rattle.org_machine.specs.States.{State, name_cmp}
-use Rattle.org_machine.specs.Organisations.{org_uri}
-use Rattle.org_machine.specs.Steps.{step}
+use Rattle.org_machine.specs.Organisations.{organisations_front}
+use Rattle.org_machine.specs.Steps.{first_refusals, step}
 use Rattle.org_machine.specs.Marks.{Mark, served, short, down, mark_of, answer, after, IsLawful}
 
 -- a request and the reply to it
@@ -66,13 +68,25 @@ pub data Outside : Type 0 where
   says : Reply → Outside
   lists : Outside
 
--- the listing of organisations isn't built, so each of these requests is answered the same in every state
+-- a GET of `/organizations` that nothing refuses asks for the listing of organisations
+abbrev pub is_listing_at : Place → Request → Bool
+is_listing_at (Of org route) request = false
+is_listing_at Organisations request = is_get request.verb && is_none (first_some (first_refusals Organisations request false))
+is_listing_at LeftOut request = false
+is_listing_at NoRoute request = false
+is_listing_at NoMemory request = false
+
+-- the request asks for the listing of organisations
+abbrev pub is_listing : Request → Bool
+is_listing request = is_listing_at request.place request
+
+-- the listing tells who is there, and any other request of no organisation is answered the same in every state
 abbrev pub outside : Request → Outside
-outside request = says (step request None).reply
+outside request = cond (is_listing request) lists (says (step request None).reply)
 
 -- the listing of these organisations
 abbrev pub listing : List (List ℕ) → Reply
-listing names = shown (dict (pairs_of (map (λ name. (name, words (org_uri name))) names)))
+listing names = shown (paths_behind organisations_front names)
 
 -- the reply lists the organisations that are there, in the order of their names
 pub record Lists (states : States) (reply : Reply) : Type 0 where

@@ -1,11 +1,15 @@
 pub mod Requests
+pub mod Collections
+pub mod Routes
 pub mod Replies
 pub mod Refusals
 pub mod States
-pub mod NodeMaps
 pub mod Outcomes
+pub mod Bodies
+pub mod Deeds
 pub mod Organisations
-pub mod Nodes
+pub mod Objects
+pub mod DataBags
 pub mod Steps
 pub mod Changes
 pub mod Marks

@@ -1,22 +1,36 @@
 -- What each refusal is answered with, and the first of several refusals.
-use Rattle.std.specs.Prelude.{Bool, cond, ℕ, List, [], ◌∷◌, Option, Some, None, codes}
+use Rattle.std.specs.Prelude.{Bool, cond, ℕ, List, [], ◌∷◌, ◌++◌, Option, Some, None, codes}
 use Rattle.doc_tree.specs.Doc.{Doc, words, list, no_docs, then_doc}
 use Rattle.org_machine.specs.declared.refusals.Refusal.{Refusal}
-use Rattle.org_machine.specs.declared.refusals.Refusal.TheVariants.{NotImplemented, NotFound, AlreadyExists, OutOfMemory}
+use Rattle.org_machine.specs.declared.refusals.Refusal.TheVariants.{TooLarge, VersionNotTaken, NotImplemented, NotFound, NotAllowed, NotJson, TooDeep, NotWhole, BadField, AlreadyExists, OutOfMemory}
 use Rattle.org_machine.specs.declared.replies.Reply.{Reply}
 use Rattle.org_machine.specs.Replies.{with_body, one_key}
 
 -- the status of a refusal
 abbrev pub status_of : Refusal → ℕ
+status_of TooLarge = 413
+status_of VersionNotTaken = 406
 status_of NotImplemented = 501
 status_of NotFound = 404
+status_of NotAllowed = 405
+status_of NotJson = 400
+status_of TooDeep = 400
+status_of NotWhole = 400
+status_of (BadField field) = 400
 status_of AlreadyExists = 409
 status_of OutOfMemory = 500
 
 -- its words
 abbrev pub words_of : Refusal → List ℕ
+words_of TooLarge = codes "body is too large"
+words_of VersionNotTaken = codes "api version is not taken"
 words_of NotImplemented = codes "not implemented"
 words_of NotFound = codes "not found"
+words_of NotAllowed = codes "not allowed"
+words_of NotJson = codes "body is not JSON"
+words_of TooDeep = codes "body is too deep"
+words_of NotWhole = codes "number is not whole"
+words_of (BadField field) = codes "bad field " ++ field
 words_of AlreadyExists = codes "already exists"
 words_of OutOfMemory = codes "out of memory"
 

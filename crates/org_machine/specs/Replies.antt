@@ -1,6 +1,6 @@
 -- The replies that a request gets: a body is the compact JSON text of a tree (RFC 8259).
-use Rattle.std.specs.Prelude.{false, ℕ, List, codes}
-use Rattle.doc_tree.specs.Doc.{Doc, words, dict, no_pairs, then_pair}
+use Rattle.std.specs.Prelude.{false, ℕ, List, ◌++◌, map, codes}
+use Rattle.doc_tree.specs.Doc.{Doc, words, dict, no_pairs, then_pair, pairs_of}
 use Rattle.doc_tree.specs.Written.{text}
 use Rattle.org_machine.specs.declared.replies.Reply.{Reply}
 
@@ -19,3 +19,7 @@ shown body = with_body 200 body
 -- 201 with the path of what was created
 abbrev pub created : List ℕ → Reply
 created uri = with_body 201 (one_key (codes "uri") (words uri))
+
+-- each name with its path, which is the name behind this front
+abbrev pub paths_behind : List ℕ → List (List ℕ) → Doc
+paths_behind front names = dict (pairs_of (map (λ name. (name, words (front ++ name))) names))

@@ -1,16 +1,15 @@
 -- Which organisation a request is of.
-use Rattle.std.specs.Prelude.{Bool, true, false, ℕ, List, Option, Some, None, bytes_eq}
+use Rattle.std.specs.Prelude.{Bool, false, ℕ, List, Option, Some, None, bytes_eq}
 use Rattle.org_machine.specs.declared.requests.Place.{Place}
-use Rattle.org_machine.specs.declared.requests.Place.TheVariants.{Of, Organisations, NotBuilt, NoMemory}
+use Rattle.org_machine.specs.declared.requests.Place.TheVariants.{Of, Organisations, LeftOut, NoRoute, NoMemory}
 use Rattle.org_machine.specs.declared.requests.Request.{Request}
-use Rattle.org_machine.specs.declared.requests.Verb.{Verb}
-use Rattle.org_machine.specs.declared.requests.Verb.TheVariants.{Get, Post, Put, Delete, Other}
 
 -- the organisation that a place is of
 abbrev pub org_at : Place → Option (List ℕ)
 org_at (Of org route) = Some org
 org_at Organisations = None
-org_at NotBuilt = None
+org_at LeftOut = None
+org_at NoRoute = None
 org_at NoMemory = None
 
 -- the organisation that a request is of
@@ -25,19 +24,3 @@ has_name name (Some org) = bytes_eq name org
 -- the request is of the organisation of this name
 abbrev pub is_of : List ℕ → Request → Bool
 is_of name request = has_name name (org_of request)
-
--- the method is GET
-abbrev pub is_get : Verb → Bool
-is_get Get = true
-is_get Post = false
-is_get Put = false
-is_get Delete = false
-is_get Other = false
-
--- the method is POST
-abbrev pub is_post : Verb → Bool
-is_post Get = false
-is_post Post = true
-is_post Put = false
-is_post Delete = false
-is_post Other = false

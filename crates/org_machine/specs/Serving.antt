@@ -1,22 +1,29 @@
 -- What serving one request does to the states of all organisations.
-use Rattle.std.specs.Prelude.{◌≡◌, if◌then◌else◌, ℕ, List, Option, Some, None}
+use Rattle.std.specs.Prelude.{◌≡◌, ◌≤◌, ◌+◌, ◌⊎◌, if◌then◌else◌, ℕ, List, Option, Some, None}
 use Rattle.org_machine.specs.declared.changes.Prepared.{Prepared}
 use Rattle.org_machine.specs.declared.replies.Reply.{Reply}
 use Rattle.org_machine.specs.declared.requests.Request.{Request}
 use Rattle.org_machine.specs.Requests.{org_of, is_of}
-use Rattle.org_machine.specs.Changes.{planned, IsPossible, ComesWith}
+use Rattle.org_machine.specs.Changes.{Prepares}
+use Rattle.org_machine.specs.Outcomes.{Outcome, refused}
+use Rattle.org_machine.specs.Refusals.{reply_to}
+use Rattle.org_machine.specs.declared.refusals.Refusal.TheVariants.{OutOfMemory}
 use Rattle.org_machine.specs.States.{State, Kept}
 use Rattle.org_machine.specs.Marks.{mark_of, answer, after, IsLawful}
 use Rattle.org_machine.specs.Alone.{Exchange, Alone, States, OutsideAnswer, states_after}
 
--- the reply is the one to the request in this state, the change leaves the state after it, and it can
--- be made to what is kept
-pub record IsPrepared (prepared : Prepared) (request : Request) (state : State) (kept : Kept) : Type 0 where
-  pub reply : prepared.reply ≡ answer (mark_of prepared.reply) request state
-  pub lawful : IsLawful (mark_of prepared.reply) request state
-  pub change : planned prepared.change state ≡ after (mark_of prepared.reply) request state
-  pub made : ComesWith prepared.reply.status prepared.change
-  pub possible : IsPossible prepared.change kept
+-- no more than one object's body was looked at: each is one step
+abbrev pub LooksAtOne : ℕ → ℕ → Type 0
+LooksAtOne before now = (before ≤ now) × (now ≤ before + 1)
+
+-- the reply is the one that is due, or tells of want of memory
+abbrev pub IsOrShort : Reply → Reply → Type 0
+IsOrShort reply due = (reply ≡ due) ⊎ (reply ≡ reply_to OutOfMemory)
+
+-- what was prepared is this outcome, or tells of want of memory and changes nothing; and it can be made to what is kept
+abbrev pub Does : Prepared → Outcome → State → Kept → Type 0
+Does prepared outcome state kept =
+    Prepares prepared outcome state kept ⊎ Prepares prepared (refused state OutOfMemory) state kept
 
 -- a request of an organisation is answered from its state, and its mark is lawful there
 abbrev pub OwnAnswer : States → Option (List ℕ) → Request → Reply → Type 0

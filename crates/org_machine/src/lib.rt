@@ -2,10 +2,13 @@
 //! what it means that each organisation of a site is answered as if it were alone.
 #![tactic(auto)]
 
+mod actions;
+mod bodies;
 mod changes;
+mod collections;
 mod laws;
-mod node_map;
 mod org_state;
+mod outside;
 mod refusals;
 mod replies;
 mod requests;
@@ -15,11 +18,15 @@ mod steps;
 #[cfg(test)]
 mod tests;
 
-pub use changes::{Change, Prepared};
+pub use actions::Action;
+pub use changes::{Change, Keys, Prepared};
+pub use collections::Collection;
 pub use laws::{steps_are_served, two_worlds};
-pub use node_map::NodeMap;
 pub use org_state::OrgState;
-pub use refusals::Refusal;
+pub use outside::{is_listing, listing, serve_outside};
+pub use refusals::{Refusal, out_of_memory};
 pub use replies::Reply;
-pub use requests::{Body, NodesRoute, OrganisationRoute, Place, Request, Route, Verb};
-pub use serving::{prepare, serve, serve_outside, settle};
+pub use requests::{
+    Body, DataRoute, ObjectsRoute, OrganisationRoute, Parameter, Parameters, Place, Request, Route,
+};
+pub use serving::{prepare, serve, settle};

@@ -1,51 +1,122 @@
 //! The refusals of a request: the status and the text that each is answered with.
 
-ghost use Rattle.std.specs.Prelude.{◌≡◌};
-ghost use Rattle.org_machine.specs.Refusals.{reply_to};
+ghost use Rattle.std.specs.Prelude.{◌≡◌, IfOk, false};
+ghost use Rattle.org_machine.specs.Refusals as spec;
 
-use crate::replies::Reply;
-use doc_tree::Bytes;
+use crate::replies::{Reply, with_key};
+use doc_tree::{Bytes, NoMemory, Text, Tree, Trees};
 use http::StatusCode;
+use std::alloc::Global;
 
 /// Why a request is refused.
-#[derive(Clone, Copy, Debug, PartialEq, Eq)]
+#[derive(Drop)]
 pub enum Refusal {
-    /// 501: the caller, the version or the request is none that is built.
+    /// 413: the body has more than 4,194,304 bytes.
+    TooLarge,
+    /// 406: the version of the API is none that is taken.
+    VersionNotTaken,
+    /// 501: the caller or the request is none that is built.
     NotImplemented,
-    /// 404: the organisation, or the object that the path names, isn't there.
+    /// 404: no route has the path, or the organisation or the object that it names isn't there.
     NotFound,
+    /// 405: the route hasn't the method, or the object stays as it is.
+    NotAllowed,
+    /// 400: the body isn't JSON.
+    NotJson,
+    /// 400: the body nests more than 100 deep.
+    TooDeep,
+    /// 400: a number in the body isn't whole.
+    NotWhole,
+    /// 400: this field of the body hasn't its form.
+    BadField(Text),
     /// 409: what the request would create is there.
     AlreadyExists,
     /// 500: no memory was left for it, and nothing changed.
     OutOfMemory,
 }
 
+impl From<NoMemory> for Refusal {
+    ghost use Rattle.std.specs.Prelude.{◌≡◌};
+    ghost use Rattle.org_machine.specs.declared.refusals.Refusal.TheVariants.{OutOfMemory};
+
+    ghost from_gives = { λ _ e. e ≡ OutOfMemory };
+
+    fn from(_cause: NoMemory) -> Refusal {
+        Refusal::OutOfMemory
+    }
+}
+
 impl Refusal {
-    /// The reply that tells of the refusal. It is constant and takes no memory.
+    /// The reply that tells of the refusal. Only that of a bad field takes memory.
     #[tactic(auto, unfolding(json::specs::Print::escape_byte))]
-    pub fn reply(self) -> Reply
-        ensures { result ≡ reply_to self }
+    pub fn reply(self, alloc: Global) -> Result<Reply, NoMemory>
+        ensures { IfOk result (λ reply. reply ≡ spec.reply_to self) }
     {
         match self {
-            Refusal::NotImplemented => refused(
+            Refusal::TooLarge => Ok(refused(
+                StatusCode::PAYLOAD_TOO_LARGE,
+                b"{\"error\":[\"body is too large\"]}",
+            )),
+            Refusal::VersionNotTaken => Ok(refused(
+                StatusCode::NOT_ACCEPTABLE,
+                b"{\"error\":[\"api version is not taken\"]}",
+            )),
+            Refusal::NotImplemented => Ok(refused(
                 StatusCode::NOT_IMPLEMENTED,
                 b"{\"error\":[\"not implemented\"]}",
-            ),
-            Refusal::NotFound => refused(StatusCode::NOT_FOUND, b"{\"error\":[\"not found\"]}"),
-            Refusal::AlreadyExists => refused(
+            )),
+            Refusal::NotFound => Ok(refused(StatusCode::NOT_FOUND, b"{\"error\":[\"not found\"]}")),
+            Refusal::NotAllowed => Ok(refused(
+                StatusCode::METHOD_NOT_ALLOWED,
+                b"{\"error\":[\"not allowed\"]}",
+            )),
+            Refusal::NotJson => Ok(bad_request(b"{\"error\":[\"body is not JSON\"]}")),
+            Refusal::TooDeep => Ok(bad_request(b"{\"error\":[\"body is too deep\"]}")),
+            Refusal::NotWhole => Ok(bad_request(b"{\"error\":[\"number is not whole\"]}")),
+            Refusal::BadField(field) => bad_field(alloc, &field),
+            Refusal::AlreadyExists => Ok(refused(
                 StatusCode::CONFLICT,
                 b"{\"error\":[\"already exists\"]}",
-            ),
-            Refusal::OutOfMemory => refused(
-                StatusCode::INTERNAL_SERVER_ERROR,
-                b"{\"error\":[\"out of memory\"]}",
-            ),
+            )),
+            Refusal::OutOfMemory => Ok(out_of_memory()),
         }
     }
 }
 
+/// The reply to want of memory. It is constant and takes no memory.
+#[tactic(auto, unfolding(json::specs::Print::escape_byte))]
+pub fn out_of_memory() -> Reply
+    ensures { result ≡ spec.reply_to Refusal.OutOfMemory }
+{
+    refused(
+        StatusCode::INTERNAL_SERVER_ERROR,
+        b"{\"error\":[\"out of memory\"]}",
+    )
+}
+
+fn bad_field(alloc: Global, field: &Text) -> Result<Reply, NoMemory>
+    ensures { IfOk result (λ reply. reply ≡ spec.reply_to (Refusal.BadField field.now)) }
+{
+    let mut words = String::from_str(alloc, "bad field ")?;
+    words.push_str(field.as_str())?;
+    let mut messages = Trees::new(alloc);
+    messages.push(Tree::Words(Text::of(words)))?;
+    with_key(
+        alloc,
+        StatusCode::BAD_REQUEST,
+        "error",
+        Tree::List(messages),
+    )
+}
+
+fn bad_request(body: &'static [u8]) -> Reply
+    ensures { result ≡ record { status = 400; octets = false; body = body.now } }
+{
+    refused(StatusCode::BAD_REQUEST, body)
+}
+
 fn refused(status: StatusCode, body: &'static [u8]) -> Reply
-    ensures { result ≡ record { status = status; octets = Rattle.std.specs.Prelude.false; body = body.now } }
+    ensures { result ≡ record { status = status; octets = false; body = body.now } }
 {
     Reply {
         status: status.as_u16(),

@@ -5,7 +5,7 @@ use Rattle.chefsite.proofs.ShardLemmas.{site-written}
 use Rattle.chefsite.proofs.site.serve_own.Goals as goal
 
 pub returns-clause-states : goal.returns-clause-states
-returns-clause-states c =
+returns-clause-states g c =
     let shards = c.args.shards.now in
     let number = c.shard_of-number.result in
     let shard = get_or shards number c.index-shards-number.result in

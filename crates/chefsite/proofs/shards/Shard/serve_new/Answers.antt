@@ -1,12 +1,19 @@
--- An organisation that isn't there after the request leaves the states as they were.
+-- An organisation that is there after the request is kept, and one that isn't leaves the states as they were.
 use Rattle.std.proofs.Common.{◌≡◌, None, ◌∙◌, sym, ap, rules}
 use Rattle.org_machine.specs.States.{state_in}
 use Rattle.org_machine.specs.Marks.{mark_of, after}
-use Rattle.chefsite.proofs.ShardLemmas.{states-absent}
+use Rattle.chefsite.proofs.ShardLemmas.{states-written, states-absent, on_ok}
 use Rattle.chefsite.proofs.shards.Shard.serve_new.Goals as goal
 
 pub returns-else-is_there-clause-states : goal.returns-else-is_there-clause-states
-returns-else-is_there-clause-states c =
+returns-else-is_there-clause-states g c =
     let gone : state_in c.serve-reply.new.state ≡ None = search rules in
     states-absent c.args.self.now.organisations c.args.key c.args.request.now c.serve-reply.result c.requires.absent c.requires.of
     (ap (after (mark_of c.serve-reply.result) c.args.request.now) (sym c.requires.none) ∙ sym c.serve-reply.ensures.state ∙ gone)
+
+pub returns-then-is_there-clause-states : goal.returns-then-is_there-clause-states
+returns-then-is_there-clause-states g c =
+    states-written c.args.self.now.organisations c.insert.new.self c.args.key c.serve-reply.new.state None c.args.request.now c.serve-reply.result
+    (on_ok c.insert.result (c.insert.ensures.succeeds c.requires.room) c.insert.ensures.updates).0
+    c.requires.absent c.requires.of
+    (c.serve-reply.ensures.state ∙ ap (after (mark_of c.serve-reply.result) c.args.request.now) c.requires.none)

@@ -1,0 +1,47 @@
+-- What a body has, and the object that it says.
+use Rattle.std.specs.Prelude.{Bool, true, false, ℕ, List, Option, Result, Ok, Err}
+use Rattle.doc_tree.specs.Doc.{Doc}
+use Rattle.doc_tree.specs.Tree.{doc_of}
+use Rattle.doc_tree.specs.declared.kind.Kind.{Kind}
+use Rattle.doc_tree.specs.declared.read.ReadFault.{ReadFault}
+use Rattle.doc_tree.specs.declared.read.ReadFault.TheVariants as fault
+use Rattle.object_forms.specs.Objects.{object_from}
+use Rattle.org_machine.specs.declared.requests.Body.{Body}
+use Rattle.org_machine.specs.declared.requests.Body.TheVariants.{Empty, Doc as Read, Bad, TooLong}
+use Rattle.org_machine.specs.declared.refusals.Refusal.{Refusal}
+use Rattle.org_machine.specs.declared.refusals.Refusal.TheVariants.{NotJson, TooDeep, NotWhole, TooLarge, BadField}
+
+-- a body over the limit
+abbrev pub is_too_long : Body → Bool
+is_too_long Empty = false
+is_too_long (Read tree) = false
+is_too_long (Bad fault) = false
+is_too_long TooLong = true
+
+-- the refusal of bytes that aren't read as JSON
+abbrev pub unreadable : ReadFault → Refusal
+unreadable fault.NotJson = NotJson
+unreadable fault.TooDeep = TooDeep
+unreadable fault.NotWhole = NotWhole
+unreadable fault.NoMemory = NotJson
+
+-- the document of a body, or why there is none
+abbrev pub document_in : Body → Result Doc Refusal
+document_in Empty = Err NotJson
+document_in (Read tree) = Ok (doc_of tree)
+document_in (Bad fault) = Err (unreadable fault)
+document_in TooLong = Err TooLarge
+
+-- what was read, or the first bad field
+abbrev pub or_bad_field : Result Doc (List ℕ) → Result Doc Refusal
+or_bad_field (Ok object) = Ok object
+or_bad_field (Err field) = Err (BadField field)
+
+-- the object that a document says, of this kind and, where it is replaced, of this name
+abbrev pub object_said : Kind → Option (List ℕ) → Result Doc Refusal → Result Doc Refusal
+object_said kind name (Ok doc) = or_bad_field (object_from kind name doc)
+object_said kind name (Err refusal) = Err refusal
+
+-- the object that a body says
+abbrev pub object_in_body : Kind → Option (List ℕ) → Body → Result Doc Refusal
+object_in_body kind name body = object_said kind name (document_in body)
