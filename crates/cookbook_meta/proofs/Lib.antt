@@ -1,0 +1,13 @@
+mod DoneLemmas
+mod EntryLemmas
+mod KeyLemmas
+mod LineLemmas
+mod MetadataLemmas
+mod PairLemmas
+mod PathLemmas
+mod PutLemmas
+mod ReadBackLemmas
+mod SegmentLemmas
+mod SoundLemmas
+mod SumLemmas
+mod WholeLemmas

@@ -1,0 +1,15 @@
+pub mod Faults
+pub mod Parts
+pub mod Metadata
+pub mod Entries
+pub mod Gathered
+pub mod Segments
+pub mod Fields
+pub mod Rules
+pub mod Stored
+pub mod Manifests
+pub mod Outcomes
+pub mod Checksums
+pub mod Identifiers
+pub mod Sound
+pub mod Laws

@@ -1,0 +1,139 @@
+//! The fields of a manifest that tell which cookbook's version it is.
+ghost use Rattle.std.specs.Prelude.{◌≡◌, IfOk, Ok, map, option_map, string_bytes};
+ghost use Rattle.doc_tree.specs.Doc.{pairs_of};
+ghost use Rattle.doc_tree.specs.Tree.{doc_of};
+ghost use Rattle.cookbook_meta.specs.Fields as spec;
+ghost use Rattle.cookbook_meta.specs.Outcomes.{Gives};
+ghost use Rattle.cookbook_meta.specs.Rules.{form_of, row_of};
+
+use crate::fault::{Flaw, MetaFault, in_field};
+use crate::parts::{text_of, version_of};
+use doc_tree::{Fields, Name, NoMemory, Tree};
+use std::alloc::Global;
+use version_rules::Version;
+
+/// The form of a field.
+#[derive(Clone, Copy, Drop)]
+pub(crate) enum Form<'a> {
+    /// A name that the path gives.
+    Named(&'a str),
+    /// The version that the path gives.
+    Released(Version),
+    /// A text that the format states.
+    Stated(&'static str),
+}
+
+/// A field that tells which cookbook's version a manifest is.
+#[derive(Clone, Copy, Drop)]
+pub(crate) struct Rule<'a> {
+    pub(crate) key: &'static str,
+    pub(crate) must: bool,
+    pub(crate) form: Form<'a>,
+}
+
+/// A cookbook's name and version, with a dash between them.
+pub(crate) fn release_name(alloc: Global, name: &Name, version: Version) -> Result<String, NoMemory>
+    ensures { IfOk result (λ text. string_bytes text ≡ spec.release_name name.now version) }
+{
+    Ok(format!(in alloc; "{name}-{version}")?)
+}
+
+/// The fields that tell which cookbook's version a manifest is, in the order in which they are looked at.
+pub(crate) fn told_by<'a>(name: &'a str, release: &'a str, version: Version) -> [Rule<'a>; 5]
+    ensures { map row_of result ≡ spec.rows name.now release.now version }
+{
+    [
+        Rule {
+            key: "cookbook_name",
+            must: false,
+            form: Form::Named(name),
+        },
+        Rule {
+            key: "name",
+            must: false,
+            form: Form::Named(release),
+        },
+        Rule {
+            key: "version",
+            must: true,
+            form: Form::Released(version),
+        },
+        Rule {
+            key: "chef_type",
+            must: false,
+            form: Form::Stated("cookbook_version"),
+        },
+        Rule {
+            key: "json_class",
+            must: false,
+            form: Form::Stated("Chef::CookbookVersion"),
+        },
+    ]
+}
+
+/// Whether each field is as its rule asks, or the fault of the first that isn't.
+pub(crate) fn are_as_asked(
+    alloc: Global,
+    rules: &[Rule<'_>],
+    body: &Fields,
+) -> Result<(), MetaFault>
+    ensures { Gives result (spec.are_as_asked (map row_of rules.now) (pairs_of body.now)) }
+{
+    for rule in rules {
+        in_field(alloc, rule.key, is_as_asked(rule, body.get(rule.key)))?;
+    }
+    Ok(())
+}
+
+fn is_as_asked(rule: &Rule<'_>, found: Option<&Tree>) -> Result<(), Flaw>
+    ensures { result ≡ spec.is_as_asked (row_of rule.now) (option_map (λ t. doc_of t.now) found.entry) }
+{
+    match found {
+        Some(tree) => has_form(rule.form, tree),
+        None => {
+            if rule.must {
+                Err(Flaw::MissingField)
+            } else {
+                Ok(())
+            }
+        }
+    }
+}
+
+fn has_form(form: Form<'_>, tree: &Tree) -> Result<(), Flaw>
+    ensures { result ≡ spec.has_form (form_of form.entry) (doc_of tree.now) }
+{
+    match form {
+        Form::Named(name) => is_text(tree, name, Flaw::NameDiffers),
+        Form::Released(version) => is_version(tree, version),
+        Form::Stated(text) => is_text(tree, text, Flaw::WrongKind),
+    }
+}
+
+fn is_text(tree: &Tree, text: &str, other: Flaw) -> Result<(), Flaw>
+    ensures { result ≡ spec.is_text text.now other (doc_of tree.now) }
+{
+    if text_of(tree)? == text {
+        Ok(())
+    } else {
+        Err(other)
+    }
+}
+
+fn is_version(tree: &Tree, version: Version) -> Result<(), Flaw>
+    ensures { result ≡ spec.has_form (spec.released version) (doc_of tree.now) }
+{
+    let sent = version_of(tree)?;
+    if same_version(&sent, &version) {
+        Ok(())
+    } else {
+        Err(Flaw::NameDiffers)
+    }
+}
+
+/// Whether two versions are equal.
+pub(crate) fn same_version(one: &Version, other: &Version) -> bool
+    ensures { result ≡ spec.same_version one.now other.now }
+{
+    one == other
+}

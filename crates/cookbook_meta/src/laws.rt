@@ -1,0 +1,11 @@
+//! Laws: what a stored manifest is read as.
+ghost use Rattle.cookbook_meta.specs.Laws.{ManifestsReadBack};
+
+use version_rules::versions_read_back;
+
+/// What a body gave under a name and a version is read as itself, under them, from its stored object.
+pub fn manifests_read_back()
+    ensures { ManifestsReadBack }
+{
+    versions_read_back();
+}

@@ -1,0 +1,24 @@
+//! Metadata and manifests of cookbook versions, and the identifier of a manifest.
+#![tactic(auto)]
+
+mod entries;
+mod fault;
+mod fields;
+mod gathered;
+mod identifiers;
+mod laws;
+mod manifests;
+mod metadata;
+mod parts;
+mod put;
+mod segments;
+mod stored;
+#[cfg(test)]
+mod tests;
+
+pub use entries::{Entries, Entry};
+pub use fault::MetaFault;
+pub use identifiers::identifier;
+pub use laws::manifests_read_back;
+pub use manifests::{Manifest, read_manifest};
+pub use metadata::{Metadata, read_metadata};
