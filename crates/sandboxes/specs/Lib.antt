@@ -1,0 +1,5 @@
+pub mod Checksums
+pub mod Sums
+pub mod Room
+pub mod Sandboxes
+pub mod Files
