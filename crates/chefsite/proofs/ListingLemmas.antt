@@ -8,11 +8,10 @@ use Rattle.std.specs.BTreeMap.{is_at}
 use Rattle.std.specs.Cmp.Lexicographic.{slice_cmp, bytes_decides}
 use Rattle.std.specs.Map.{keys_of, lookup}
 use Rattle.doc_tree.proofs.Maps.{eq_by_cmp-text, bytes_eq-symm}
-use Rattle.org_machine.specs.declared.replies.Reply.{Reply}
-use Rattle.org_machine.specs.States.{Kept, state_in, name_cmp}
-use Rattle.org_machine.specs.declared.requests.Request.{Request}
-use Rattle.org_machine.specs.declared.refusals.Refusal.TheVariants.{OutOfMemory}
-use Rattle.org_machine.specs.Refusals.{reply_to}
+use Rattle.org_core.specs.declared.replies.Reply.{Reply}
+use Rattle.org_core.specs.States.{Kept, state_in, name_cmp}
+use Rattle.org_core.specs.declared.requests.Request.{Request}
+use Rattle.org_core.specs.Refusals.{out_of_memory}
 use Rattle.org_machine.specs.Marks.{mark_of}
 use Rattle.org_machine.specs.Steps.{step}
 use Rattle.org_machine.specs.Alone.{States, says, lists, is_listing, Lists, listing, IsDue, IsAnsweredBy}
@@ -129,7 +128,7 @@ lists-all (Ok reply) states names list has_all same sorted told = record {
 
 -- the listing is what is due where it is asked for, and want of memory may stand in its place
 pub listing-due : (states : States) (request : Request) (reply : Reply) → is_listing request ≡ true
-    → Lists states reply ⊎ (reply ≡ reply_to OutOfMemory) → IsAnsweredBy (mark_of reply) states request reply
+    → Lists states reply ⊎ (reply ≡ out_of_memory) → IsAnsweredBy (mark_of reply) states request reply
 listing-due states request reply asked (inl all) =
     subst (λ mark. IsAnsweredBy mark states request reply) (sym (ap mark_of all.told))
     (subst (λ due. IsDue states due reply) (sym (ap (λ b. cond b lists (says (step request None).reply)) asked)) all)

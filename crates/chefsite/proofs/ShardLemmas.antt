@@ -8,10 +8,10 @@ use Rattle.chefsite.specs.declared.shards.Shard.{Shard}
 use Rattle.chefsite.specs.Shards.{states_in, shard_of, site_states}
 use Rattle.std.specs.Str.{bytes_eq}
 use Rattle.std.specs.Cmp.Lexicographic.{bytes_decides, nat_list_eq_equiv}
-use Rattle.org_machine.specs.declared.replies.Reply.{Reply}
-use Rattle.org_machine.specs.declared.requests.Request.{Request}
-use Rattle.org_machine.specs.Requests.{org_of, has_name}
-use Rattle.org_machine.specs.States.{State, Kept, state_in}
+use Rattle.org_core.specs.declared.replies.Reply.{Reply}
+use Rattle.org_core.specs.declared.requests.Request.{Request}
+use Rattle.org_core.specs.Requests.{org_of, has_name}
+use Rattle.org_core.specs.States.{State, Kept, state_in}
 use Rattle.org_machine.specs.Marks.{mark_of, after}
 use Rattle.org_machine.specs.Serving.{state_then}
 use Rattle.chefsite.specs.Organisations.{KeptOrganisations, kept_at, state_at}

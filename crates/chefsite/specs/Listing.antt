@@ -1,7 +1,7 @@
 -- Which organisations a shard adds to the listing of its site.
 use Rattle.std.specs.Prelude.{ℕ, List, Bool, ◌&&◌, ◌==◌, is_some, bytes_eq}
 use Rattle.std.specs.BTreeSet.{BTreeSet, contains}
-use Rattle.org_machine.specs.States.{Kept, state_in, name_cmp}
+use Rattle.org_core.specs.States.{Kept, state_in, name_cmp}
 use Rattle.org_machine.specs.Alone.{States}
 use Rattle.chefsite.specs.declared.shards.Shard.{Shard}
 use Rattle.chefsite.specs.Shards.{states_in, shard_of}

@@ -1,14 +1,13 @@
 -- How a shard keeps its organisations.
 use Rattle.std.specs.Prelude.{ℕ, List, Option, Some, None, ◌==◌, ◌<◌}
 use Rattle.std.specs.Cmp.Lexicographic.{pointwise}
-use Rattle.std.specs.declared.hash.FoldHasher.{FoldHasher}
-use Rattle.std.specs.declared.hash.BuildHasherDefault.{BuildHasherDefault}
+use Rattle.std.specs.declared.random_state.RandomState.{RandomState}
 use Rattle.indexmap.specs.IndexMap.{IndexMap, get, spare}
-use Rattle.org_machine.specs.States.{State, Kept, state_in}
+use Rattle.org_core.specs.States.{State, Kept, state_in}
 
 -- organisations by their names
 abbrev pub KeptOrganisations : Type 0
-KeptOrganisations = IndexMap (List ℕ) Kept (BuildHasherDefault FoldHasher)
+KeptOrganisations = IndexMap (List ℕ) Kept RandomState
 
 -- what is kept under a name
 abbrev pub kept_at : KeptOrganisations → List ℕ → Option Kept

@@ -3,7 +3,7 @@ use Rattle.std.specs.Prelude.{◌≡◌, ℕ, ◌+◌, ◌-◌, List, [], ◌++�
 use Rattle.std.specs.Io.KnownBytes.{prepend_known, IsAtEnd}
 use Rattle.outside_core.specs.Failed.{Rose}
 use Rattle.outside_core.specs.Sink.{GainsPart, PassesOn}
-use Rattle.org_machine.specs.declared.replies.Reply.{Reply}
+use Rattle.org_core.specs.declared.replies.Reply.{Reply}
 use Rattle.org_machine.specs.Alone.{Exchange, States, nobody}
 use Rattle.org_machine.specs.Serving.{Serves, Progress}
 use Rattle.http_wire.specs.Message.{Message, print_message, BeginsNone, last_place}

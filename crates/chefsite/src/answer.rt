@@ -13,6 +13,7 @@ use doc_tree::{NoMemory, Steps};
 use http_wire::Room;
 use outside_core::{Buffered, Failed, Sink, Source};
 use std::alloc::Global;
+use std::hash::RandomState;
 use std::sync::ledger::Ledger;
 
 /// How many bytes of replies wait before they are written.
@@ -23,6 +24,7 @@ pub(crate) fn answer<I: Source, U: Sink, L: Ledger>(
     alloc: Global,
     input: &mut I,
     output: &mut U,
+    hasher: RandomState,
     steps: &mut Steps<L>,
 ) -> Status
     ensures says { Says result (I.left input.old) (I.left input.new) (U.gained output.old) (U.gained output.new) }
@@ -34,7 +36,7 @@ pub(crate) fn answer<I: Source, U: Sink, L: Ledger>(
     ensures written { U.faults output.old ≤ U.faults output.new }
 {
     match take_memory(alloc) {
-        Ok((room, buffer)) => answer_in(alloc, input, output, room, buffer, steps),
+        Ok((room, buffer)) => answer_in(alloc, input, output, room, buffer, hasher, steps),
         Err(NoMemory) => Status::NoMemory,
     }
 }
@@ -53,6 +55,7 @@ fn answer_in<I: Source, U: Sink, L: Ledger>(
     output: &mut U,
     room: Room,
     buffer: Buffered,
+    hasher: RandomState,
     steps: &mut Steps<L>,
 ) -> Status
     requires room { room ≡ record { held = []; place = 0 } }
@@ -65,7 +68,7 @@ fn answer_in<I: Source, U: Sink, L: Ledger>(
 {
     let mut room = room;
     let mut buffer = buffer;
-    let mut shards = [Shard::new(alloc)];
+    let mut shards = [Shard::new(alloc, hasher)];
     let end = answer_all(
         alloc,
         input,

@@ -3,8 +3,8 @@
 ghost use Rattle.std.specs.Prelude.{◌≡◌, ◌≤◌, ◌-◌, ◌++◌, ℕ, [], List, None, OnOk, OnErr, IfErr, MatchResult, length};
 ghost use Rattle.outside_core.specs.Failed.{HasCause};
 ghost use Rattle.outside_core.specs.Sink.{GainsPart, PassesOn};
-ghost use Rattle.org_machine.specs.declared.replies.Reply as reply;
-ghost use Rattle.org_machine.specs.declared.requests.Request as asked;
+ghost use Rattle.org_core.specs.declared.replies.Reply as reply;
+ghost use Rattle.org_core.specs.declared.requests.Request as asked;
 ghost use Rattle.org_machine.specs.Serving.{Serves};
 ghost use Rattle.http_wire.specs.Message.{BeginsNone, last_place};
 ghost use Rattle.http_wire.specs.Requests.{IsRead};

@@ -29,6 +29,7 @@ use outside_core::{Reading, Sink, Source, Writing};
 use statuses::Status;
 use std::alloc::Global;
 use std::env;
+use std::hash::RandomState;
 use std::io::{BufReader, ErrorKind};
 use std::marker::Brand;
 use std::process::ExitCode;
@@ -36,13 +37,15 @@ use std::rt::Env;
 use std::sync::ledger::{Blank, Ledger};
 use words::is_command;
 
-/// Runs the command that the words name, notes why it ended, and waits for nobody.
+/// Runs the command that the words name, notes why it ended, and waits for nobody. The maps of the run
+/// hash by `hasher`, which changes no reply.
 pub fn once<I: Source, U: Sink, N: Sink, L: Ledger>(
     alloc: Global,
     words: &[Text],
     input: &mut I,
     output: &mut U,
     notes: &mut N,
+    hasher: RandomState,
     blank: Blank,
 ) -> Status
     requires ledger { (blank.name ≡ L.name) × (blank.parts ≡ L.parts) × (0 < L.parts) }
@@ -67,7 +70,7 @@ pub fn once<I: Source, U: Sink, N: Sink, L: Ledger>(
     ensures quiet { result ≡ Status.Done → notes.new ≡ notes.old }
 {
     let mut steps: Steps<L> = Steps::begin(blank);
-    let status = perform(alloc, words, input, output, &mut steps);
+    let status = perform(alloc, words, input, output, hasher, &mut steps);
     note(notes, status);
     status
 }
@@ -77,6 +80,7 @@ fn perform<I: Source, U: Sink, L: Ledger>(
     words: &[Text],
     input: &mut I,
     output: &mut U,
+    hasher: RandomState,
     steps: &mut Steps<L>,
 ) -> Status
     ensures says { Says result (I.left input.old) (I.left input.new) (U.gained output.old) (U.gained output.new) }
@@ -86,7 +90,7 @@ fn perform<I: Source, U: Sink, L: Ledger>(
     ensures complete { IsCommand words.now → IsComplete result (I.left input.old) (I.faults input.old) (I.faults input.new) (U.faults output.old) (U.faults output.new) }
 {
     if is_command(words) {
-        answer(alloc, input, output, steps)
+        answer(alloc, input, output, hasher, steps)
     } else {
         Status::Usage
     }
@@ -99,6 +103,7 @@ pub fn run<I: Source, U: Sink, N: Sink, L: Ledger>(
     input: &mut I,
     output: &mut U,
     notes: &mut N,
+    hasher: RandomState,
     blank: Blank,
 ) -> Status
     requires ledger { (blank.name ≡ L.name) × (blank.parts ≡ L.parts) × (0 < L.parts) }
@@ -115,7 +120,7 @@ pub fn run<I: Source, U: Sink, N: Sink, L: Ledger>(
     ensures notes { IsNoted result (N.gained notes.old) (N.gained notes.new) (N.faults notes.old) (N.faults notes.new) }
     ensures quiet { result ≡ Status.Done → notes.new ≡ notes.old }
 {
-    once::<I, U, N, L>(alloc, words, input, output, notes, blank)
+    once::<I, U, N, L>(alloc, words, input, output, notes, hasher, blank)
 }
 
 fn main(rt: HostRuntime) -> ExitCode {
@@ -127,6 +132,10 @@ fn main(rt: HostRuntime) -> ExitCode {
     let Ok(reader) = BufReader::new(rt.alloc(), rt.stdin()) else {
         return end_before(&mut notes, Status::NoMemory);
     };
+    // Keys of its own for the maps, so that nobody can choose names that collide in them.
+    let Ok(hasher) = RandomState::new(&rt) else {
+        return end_before(&mut notes, Status::NoMemory);
+    };
     let mut input = Reading::new(reader);
     let mut output = Writing::new(rt.stdout());
     let status = run::<_, _, _, Brand>(
@@ -135,6 +144,7 @@ fn main(rt: HostRuntime) -> ExitCode {
         &mut input,
         &mut output,
         &mut notes,
+        hasher,
         Blank::new(1),
     );
     ExitCode::from(status.code())

@@ -2,7 +2,7 @@
 
 ghost use Rattle.std.specs.Prelude.{◌≡◌, ◌<◌, ◌≤◌, ◌||◌, ℕ, List, IfOk, OnOk, bytes_eq};
 ghost use Rattle.std.specs.List.Sorted.{IsStrictlySortedBy};
-ghost use Rattle.org_machine.specs.States.{name_cmp};
+ghost use Rattle.org_core.specs.States.{name_cmp};
 ghost use Rattle.chefsite.specs.Listing.{has, shows};
 
 use crate::numbers::shard_of;

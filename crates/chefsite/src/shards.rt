@@ -11,30 +11,33 @@ use indexmap::IndexMap;
 use org_machine::{OrgState, Reply, Request, out_of_memory};
 use std::alloc::Global;
 use std::collections::BTreeSet;
+use std::hash::RandomState;
 use std::sync::ledger::Ledger;
 
 /// The organisations of one shard, by their names.
 #[derive(Drop)]
 pub struct Shard {
-    organisations: IndexMap<Text, OrgState>,
+    organisations: IndexMap<Text, OrgState, RandomState>,
+    hasher: RandomState,
     ghost named: { (name : List ℕ) → ForSome (kept_at organisations name) (λ kept. kept.name ≡ name) },
 }
 
 impl Shard {
     ghost use Rattle.std.specs.Prelude.{◌<◌, ◌≤◌, ◌||◌, None, Some, IfOk, OnOk};
-    ghost use Rattle.org_machine.specs.Requests.{org_of};
-    ghost use Rattle.org_machine.specs.States.{state_in};
+    ghost use Rattle.org_core.specs.Requests.{org_of};
+    ghost use Rattle.org_core.specs.States.{state_in};
     ghost use Rattle.org_machine.specs.Marks.{mark_of, answer, IsLawful};
-    ghost use Rattle.org_machine.specs.Serving.{state_then};
+    ghost use Rattle.org_machine.specs.Serving.{IsGood, state_then};
     ghost use Rattle.chefsite.specs.Shards.{states_in, HasRoom};
     ghost use Rattle.chefsite.specs.Listing.{has, adds};
 
-    /// A shard without organisations. It takes no memory.
-    pub fn new(alloc: Global) -> Shard
+    /// A shard without organisations, whose maps hash by this hasher. It takes no memory.
+    pub fn new(alloc: Global, hasher: RandomState) -> Shard
         ensures { (name : List ℕ) → states_in result name ≡ None }
     {
         Shard {
-            organisations: IndexMap::new(alloc),
+            organisations: IndexMap::with_hasher(alloc, hasher),
+            hasher,
         }
     }
 
@@ -52,6 +55,8 @@ impl Shard {
         ensures lawful { IsLawful (mark_of result) request.now (states_in self.old org.now) }
         ensures states { (name : List ℕ) →
             states_in self.new name ≡ state_then name request.now result (states_in self.old name) }
+        // A reply other than 200 and 201 leaves every state as it was.
+        ensures stays { ¬ (IsGood result.status) → (name : List ℕ) → states_in self.new name ≡ states_in self.old name }
     {
         match self.organisations.get_mut(org) {
             Some(state) => org_machine::serve(alloc, state, request, steps),
@@ -112,7 +117,7 @@ impl Shard {
     {
         self.organisations.reserve(1)?;
         let key = org.copy(alloc)?;
-        Ok((key, OrgState::none(org.copy(alloc)?)))
+        Ok((key, OrgState::none(alloc, self.hasher, org.copy(alloc)?)))
     }
 
     // Serves the first request of an organisation, and keeps it if it is there afterwards.

@@ -1,11 +1,10 @@
 //! All the organisations of a site, over its shards.
 
 ghost use Rattle.std.specs.Prelude.{◌≡◌, ◌⊎◌, ℕ, List, None, Some};
-ghost use Rattle.org_machine.specs.declared.requests.Request.{Request};
-ghost use Rattle.org_machine.specs.declared.refusals.Refusal.TheVariants.{OutOfMemory};
+ghost use Rattle.org_core.specs.declared.requests.Request.{Request};
 ghost use Rattle.org_machine.specs.Alone.{Lists, OutsideAnswer};
-ghost use Rattle.org_machine.specs.Refusals.{reply_to};
-ghost use Rattle.org_machine.specs.Requests.{org_of};
+ghost use Rattle.org_core.specs.Refusals.{out_of_memory};
+ghost use Rattle.org_core.specs.Requests.{org_of};
 ghost use Rattle.org_machine.specs.Marks.{mark_of, answer, IsLawful};
 ghost use Rattle.org_machine.specs.Serving.{Serves, state_then};
 ghost use Rattle.http_wire.specs.Requests.{IsRead};
@@ -31,10 +30,24 @@ pub fn serve<L: Ledger>(
     ensures { (spelled : Request) → IsRead request spelled →
         Serves (site_states shards.old) spelled result (site_states shards.new) }
 {
+    serve_at(alloc, shards, &request, steps)
+}
+
+// The request is lent, so that it is dropped at one place.
+fn serve_at<L: Ledger>(
+    alloc: Global,
+    shards: &mut [Shard],
+    request: &Request,
+    steps: &mut Steps<L>,
+) -> Reply
+    requires { IsSite shards.old }
+    ensures { (spelled : Request) → IsRead request.now spelled →
+        Serves (site_states shards.old) spelled result (site_states shards.new) }
+{
     match &request.place {
-        Place::Of { org, route: _ } => serve_own(alloc, shards, org, &request, steps),
+        Place::Of { org, route: _ } => serve_own(alloc, shards, org, request, steps),
         Place::Organisations | Place::LeftOut | Place::NoRoute => {
-            serve_of_none(alloc, shards, &request)
+            serve_of_none(alloc, shards, request)
         }
         Place::NoMemory => out_of_memory(),
     }
@@ -55,7 +68,7 @@ fn serve_of_none(alloc: Global, shards: &[Shard], request: &Request) -> Reply
 
 fn listed(alloc: Global, shards: &[Shard]) -> Reply
     requires { IsSite shards.now }
-    ensures { (Lists (site_states shards.now) result) ⊎ (result ≡ reply_to OutOfMemory) }
+    ensures { (Lists (site_states shards.now) result) ⊎ (result ≡ out_of_memory) }
 {
     match list(alloc, shards) {
         Ok(reply) => reply,

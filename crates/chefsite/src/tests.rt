@@ -121,6 +121,7 @@ struct Answered {
 // What `answer` makes of these bytes, read in pieces, with these reads and writes failing.
 fn ran(
     alloc: Global,
+    hasher: RandomState,
     input: &[u8],
     piece: usize,
     reads: Vec<u64>,
@@ -139,6 +140,7 @@ fn ran(
         &mut input,
         &mut output,
         &mut notes,
+        hasher,
         Blank::new(1),
     );
     Ok(Answered {
@@ -151,6 +153,7 @@ fn ran(
 #[test]
 fn the_worked_stream_is_answered_in_any_pieces(rt: HostRuntime) -> Result<(), Fail> {
     let alloc = rt.alloc();
+    let hasher = RandomState::new(&rt)?;
     let stream = acme(alloc)?;
     assert_eq!(rt; CREATED_ACME.len(), 29);
     assert_eq!(rt; CREATED_WEB1.len(), 40);
@@ -158,6 +161,7 @@ fn the_worked_stream_is_answered_in_any_pieces(rt: HostRuntime) -> Result<(), Fa
     for piece in [1, 2, 7, 1000] {
         let ran = ran(
             alloc,
+            hasher,
             &stream.asked,
             piece,
             Vec::new(alloc),
@@ -178,6 +182,7 @@ fn the_worked_stream_is_answered_in_any_pieces(rt: HostRuntime) -> Result<(), Fa
 #[test]
 fn another_organisation_in_between_changes_nothing(rt: HostRuntime) -> Result<(), Fail> {
     let alloc = rt.alloc();
+    let hasher = RandomState::new(&rt)?;
     for order in 0..64_u32 {
         if order.count_ones() == 3 {
             let mut stream = Stream::new(alloc);
@@ -190,7 +195,14 @@ fn another_organisation_in_between_changes_nothing(rt: HostRuntime) -> Result<()
                 };
                 stream.push(asked.as_str(), told.as_str())?;
             }
-            let ran = ran(alloc, &stream.asked, 1000, Vec::new(alloc), Vec::new(alloc))?;
+            let ran = ran(
+                alloc,
+                hasher,
+                &stream.asked,
+                1000,
+                Vec::new(alloc),
+                Vec::new(alloc),
+            )?;
             assert!(rt; ran.status == Status::Done);
             assert_eq!(rt;
                 ran.output.as_slice(),
@@ -206,6 +218,7 @@ fn another_organisation_in_between_changes_nothing(rt: HostRuntime) -> Result<()
 #[test]
 fn a_listing_has_the_organisations_that_are_there(rt: HostRuntime) -> Result<(), Fail> {
     let alloc = rt.alloc();
+    let hasher = RandomState::new(&rt)?;
     let mut stream = Stream::new(alloc);
     let cases = [
         ("", "{}"),
@@ -228,7 +241,14 @@ fn a_listing_has_the_organisations_that_are_there(rt: HostRuntime) -> Result<(),
         let told = told(alloc, "200 OK", listed)?;
         stream.push(asked.as_str(), told.as_str())?;
     }
-    let ran = ran(alloc, &stream.asked, 1000, Vec::new(alloc), Vec::new(alloc))?;
+    let ran = ran(
+        alloc,
+        hasher,
+        &stream.asked,
+        1000,
+        Vec::new(alloc),
+        Vec::new(alloc),
+    )?;
     assert!(rt; ran.status == Status::Done);
     assert_eq!(rt; ran.output.as_slice(), stream.told.as_slice());
     Ok(())
@@ -237,6 +257,7 @@ fn a_listing_has_the_organisations_that_are_there(rt: HostRuntime) -> Result<(),
 #[test]
 fn refusals_say_why_and_change_nothing(rt: HostRuntime) -> Result<(), Fail> {
     let alloc = rt.alloc();
+    let hasher = RandomState::new(&rt)?;
     let built = ("501 Not Implemented", "{\"error\":[\"not implemented\"]}");
     let found = ("404 Not Found", "{\"error\":[\"not found\"]}");
     let exists = ("409 Conflict", "{\"error\":[\"already exists\"]}");
@@ -350,7 +371,14 @@ fn refusals_say_why_and_change_nothing(rt: HostRuntime) -> Result<(), Fail> {
         let told = told(alloc, status, text)?;
         stream.push(asked.as_str(), told.as_str())?;
     }
-    let ran = ran(alloc, &stream.asked, 1000, Vec::new(alloc), Vec::new(alloc))?;
+    let ran = ran(
+        alloc,
+        hasher,
+        &stream.asked,
+        1000,
+        Vec::new(alloc),
+        Vec::new(alloc),
+    )?;
     assert!(rt; ran.status == Status::Done);
     assert_eq!(rt; ran.output.as_slice(), stream.told.as_slice());
     Ok(())
@@ -366,12 +394,14 @@ fn no_message_at(alloc: Global, place: usize) -> Result<(Status, String), AllocE
 #[test]
 fn a_stream_cut_anywhere_answers_its_whole_messages(rt: HostRuntime) -> Result<(), Fail> {
     let alloc = rt.alloc();
+    let hasher = RandomState::new(&rt)?;
     let stream = acme(alloc)?;
     let mut bytes = stream.asked.to_vec(alloc)?;
     bytes.extend_from_slice(b"no head\r\n\r\n")?;
     for count in 0..bytes.len() + 1 {
         let ran = ran(
             alloc,
+            hasher,
             &bytes[..count],
             1000,
             Vec::new(alloc),
@@ -394,7 +424,14 @@ fn a_stream_cut_anywhere_answers_its_whole_messages(rt: HostRuntime) -> Result<(
             "after {count} bytes"
         );
     }
-    let ran = ran(alloc, b"GET /", 1000, Vec::new(alloc), Vec::new(alloc))?;
+    let ran = ran(
+        alloc,
+        hasher,
+        b"GET /",
+        1000,
+        Vec::new(alloc),
+        Vec::new(alloc),
+    )?;
     assert!(rt; ran.status == Status::NotAMessage { place: 0 });
     assert_eq!(rt;
         ran.notes.as_slice(),
@@ -406,10 +443,12 @@ fn a_stream_cut_anywhere_answers_its_whole_messages(rt: HostRuntime) -> Result<(
 #[test]
 fn a_read_that_fails_leaves_whole_replies(rt: HostRuntime) -> Result<(), Fail> {
     let alloc = rt.alloc();
+    let hasher = RandomState::new(&rt)?;
     let stream = acme(alloc)?;
     for read in 1..8 {
         let ran = ran(
             alloc,
+            hasher,
             &stream.asked,
             50,
             vec![in alloc; read]?,
@@ -435,11 +474,13 @@ fn a_read_that_fails_leaves_whole_replies(rt: HostRuntime) -> Result<(), Fail> {
 #[test]
 fn a_write_that_fails_ends_the_run(rt: HostRuntime) -> Result<(), Fail> {
     let alloc = rt.alloc();
+    let hasher = RandomState::new(&rt)?;
     let stream = acme(alloc)?;
     let mut failed = 0_u32;
     for write in 1..8 {
         let ran = ran(
             alloc,
+            hasher,
             &stream.asked,
             50,
             Vec::new(alloc),
@@ -463,6 +504,7 @@ fn a_write_that_fails_ends_the_run(rt: HostRuntime) -> Result<(), Fail> {
 #[test]
 fn other_words_are_no_command(rt: HostRuntime) -> Result<(), Fail> {
     let alloc = rt.alloc();
+    let hasher = RandomState::new(&rt)?;
     let cases = [
         ("", 0, 100, "chefsite: usage\n"),
         ("serve", 1, 100, ""),
@@ -487,6 +529,7 @@ fn other_words_are_no_command(rt: HostRuntime) -> Result<(), Fail> {
             &mut input,
             &mut output,
             &mut notes,
+            hasher,
             Blank::new(1),
         );
         assert!(rt; status == Status::Usage);

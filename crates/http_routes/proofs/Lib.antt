@@ -1,3 +1,3 @@
 pub mod HeaderLemmas
 pub mod SegmentLemmas
-pub mod RequestLemmas
+pub mod ConnectionLemmas

@@ -1,31 +1,57 @@
--- The body of a request: JSON (RFC 8259) where the method is POST or PUT, and else dropped.
-use Rattle.std.specs.Prelude.{ℕ, List, length, nat_lt, Result, Ok, Err, if◌then◌else◌}
+-- How the body of a request is read: by its place and its method, once its head is known.
+use Rattle.std.specs.Prelude.{Bool, ◌||◌, not, ℕ, List, length, nat_lt, Result, Ok, Err, is_some, cond, if◌then◌else◌}
 use Rattle.doc_tree.specs.Doc.{Doc}
 use Rattle.doc_tree.specs.Tree.{tree_of}
 use Rattle.doc_tree.specs.Read.{reads}
 use Rattle.doc_tree.specs.declared.read.ReadFault.{ReadFault}
-use Rattle.org_machine.specs.declared.requests.Body.{Body}
-use Rattle.org_machine.specs.declared.requests.Body.TheVariants.{Empty, Doc as Read, Bad, TooLong}
+use Rattle.org_core.specs.declared.requests.Body.{Body}
+use Rattle.org_core.specs.declared.requests.Body.TheVariants.{Empty, Doc as Read, Bad, TooLong}
+use Rattle.org_core.specs.declared.requests.Place.{Place}
+use Rattle.org_core.specs.declared.requests.Request.{Request}
+use Rattle.org_machine.specs.Heads.{head_refusal}
 use Rattle.route_table.specs.declared.verbs.Verb.{Verb}
 use Rattle.route_table.specs.declared.verbs.Verb.TheVariants.{Get, Post, Put, Delete, Other}
+use Rattle.http_routes.specs.declared.bodies.BodyForm.{BodyForm}
+use Rattle.http_routes.specs.declared.bodies.BodyForm.TheVariants.{Dropped, Json}
+use Rattle.http_routes.specs.Places.{is_creation}
 
 -- the most bytes of a body that is looked at
 abbrev pub most_body : ℕ
 most_body = 4194304
+
+-- the form of the body that is sent to a place by a method: JSON (RFC 8259) by POST and PUT, and else
+-- dropped. The bytes of a file will be a form of their own: the case of a PUT to `files` stands before
+-- these once it is built, and is why the place is known here
+abbrev pub form_at : Place → Verb → BodyForm
+form_at place Get = Dropped
+form_at place Post = Json
+form_at place Put = Json
+form_at place Delete = Dropped
+form_at place Other = Dropped
+
+-- the body is looked at: the head alone doesn't refuse the request, or it is the body that tells whose
+-- request it is
+abbrev pub is_looked_at : Request → Bool
+is_looked_at head = is_creation head.place head.verb || not (is_some (head_refusal head))
+
+-- the form of the body behind a head
+abbrev pub form_in : Request → BodyForm
+form_in head = cond (is_looked_at head) (form_at head.place head.verb) Dropped
 
 -- the tree that was read, or the fault
 abbrev pub body_from : Result Doc ReadFault → Body
 body_from (Ok doc) = Read (tree_of doc)
 body_from (Err fault) = Bad fault
 
--- a body that isn't too long, by its method
-abbrev pub short_body : Verb → List ℕ → Body
-short_body Get bytes = Empty
-short_body Post bytes = body_from (reads bytes)
-short_body Put bytes = body_from (reads bytes)
-short_body Delete bytes = Empty
-short_body Other bytes = Empty
+-- a body that isn't too long, by its form
+abbrev pub short_body : BodyForm → List ℕ → Body
+short_body Dropped bytes = Empty
+short_body Json bytes = body_from (reads bytes)
 
--- a body
-abbrev pub body_in : Verb → List ℕ → Body
-body_in verb bytes = if nat_lt most_body (length bytes) then TooLong else short_body verb bytes
+-- a body, by its form
+abbrev pub body_as : BodyForm → List ℕ → Body
+body_as form bytes = if nat_lt most_body (length bytes) then TooLong else short_body form bytes
+
+-- the body behind a head
+abbrev pub body_in : Request → List ℕ → Body
+body_in head bytes = body_as (form_in head) bytes

@@ -1,7 +1,8 @@
 pub mod Verbs
 pub mod Headers
+pub mod Connections
 pub mod Targets
+pub mod Places
 pub mod Bodies
 pub mod Parameters
-pub mod Places
 pub mod Requests

@@ -1,25 +1,118 @@
--- Where a path points: the path of the table of routes that its segments name, with the names in it.
-use Rattle.std.specs.Prelude.{ℕ, List, [], ◌∷◌, Option, Some, None, codes, cond}
+-- Where a path points: the path of the table of routes that its segments name, with every name in it.
+use Rattle.std.specs.Prelude.{Bool, true, false, ◌&&◌, ℕ, zero, suc, List, [], ◌∷◌, Option, Some, None, codes, cond}
 use Rattle.doc_tree.specs.Doc.{Doc, null, boolean, whole, words, list, dict}
 use Rattle.doc_tree.specs.Part.{pair_at}
 use Rattle.doc_tree.specs.Tree.{doc_of}
 use Rattle.doc_tree.specs.Name.{is_organisation_name}
+use Rattle.route_table.specs.declared.availability.Availability.{Availability}
+use Rattle.route_table.specs.declared.availability.Availability.TheVariants.{Lacking}
 use Rattle.route_table.specs.declared.paths.Path.{Path}
 use Rattle.route_table.specs.declared.paths.Path.TheVariants as path
 use Rattle.route_table.specs.declared.verbs.Verb.{Verb}
-use Rattle.route_table.specs.declared.verbs.Verb.TheVariants.{Get, Post, Put, Delete, Other}
 use Rattle.route_table.specs.LeftOut.{is_left_out}
-use Rattle.route_table.specs.Table.{is_path, path_at}
-use Rattle.org_machine.specs.declared.collections.Collection.TheVariants.{Nodes, Roles, Environments, Clients}
-use Rattle.org_machine.specs.declared.requests.Body.{Body}
-use Rattle.org_machine.specs.declared.requests.Body.TheVariants.{Empty, Doc as Read, Bad, TooLong}
-use Rattle.org_machine.specs.declared.requests.OrganisationRoute.TheVariants.{Create, Whole}
-use Rattle.org_machine.specs.declared.requests.ObjectsRoute.TheVariants.{All, One}
-use Rattle.org_machine.specs.declared.requests.DataRoute.TheVariants.{Bags, Bag, Item}
-use Rattle.org_machine.specs.declared.requests.Route.{Route}
-use Rattle.org_machine.specs.declared.requests.Route.TheVariants.{Organisation, Objects, Data, NotBuilt}
-use Rattle.org_machine.specs.declared.requests.Place.{Place}
-use Rattle.org_machine.specs.declared.requests.Place.TheVariants.{Of, Organisations, LeftOut, NoRoute}
+use Rattle.route_table.specs.Table.{availability, path_at}
+use Rattle.route_table.specs.Verbs.{is_post}
+use Rattle.org_core.specs.declared.collections.Collection.TheVariants.{Nodes, Roles, Environments, Clients}
+use Rattle.org_core.specs.declared.requests.Body.{Body}
+use Rattle.org_core.specs.declared.requests.Body.TheVariants.{Empty, Doc as Read, Bad, TooLong}
+use Rattle.org_core.specs.declared.routes.OrganisationRoute.TheVariants.{Create, Whole}
+use Rattle.org_core.specs.declared.routes.ObjectsRoute.TheVariants.{All, One}
+use Rattle.org_core.specs.declared.routes.DataRoute.TheVariants.{Bags, Bag, Item}
+use Rattle.org_core.specs.declared.routes.AccessRoute.TheVariants as access
+use Rattle.org_core.specs.declared.routes.CookbookRoute.TheVariants as cookbook
+use Rattle.org_core.specs.declared.routes.PolicyRoute.TheVariants as policy
+use Rattle.org_core.specs.declared.routes.SearchRoute.TheVariants as search
+use Rattle.org_core.specs.declared.routes.Route.{Route}
+use Rattle.org_core.specs.declared.routes.Route.TheVariants.{Organisation, Objects, Data, Access, Cookbooks, Policies, Search}
+use Rattle.org_core.specs.declared.requests.Place.{Place}
+use Rattle.org_core.specs.declared.requests.Place.TheVariants.{Of, Organisations, LeftOut, NoRoute, NoMemory}
+use Rattle.http_routes.specs.declared.places.Aim.{Aim}
+
+-- the first of these segments, empty where there is none
+abbrev pub first_of : List (List ℕ) → List ℕ
+first_of [] = []
+first_of (segment ∷ rest) = segment
+
+-- the segments behind the first
+abbrev pub rest_of : List (List ℕ) → List (List ℕ)
+rest_of [] = []
+rest_of (segment ∷ rest) = rest
+
+-- the segment at this place of a path, counted from 0
+abbrev pub nth_segment : ℕ → List (List ℕ) → List ℕ
+nth_segment zero segments = first_of segments
+nth_segment (suc n) segments = nth_segment n (rest_of segments)
+
+-- a route of the organisation that a path names
+abbrev pub within : List (List ℕ) → Route → Place
+within segments route = Of (nth_segment 1 segments) route
+
+-- the place that a path of the table names, with these segments
+abbrev pub place_at : Path → List (List ℕ) → Place
+place_at path.Organisations segments = Organisations
+place_at path.Organisation segments = within segments (Organisation Whole)
+place_at path.Nodes segments = within segments (Objects Nodes All)
+place_at path.Roles segments = within segments (Objects Roles All)
+place_at path.Environments segments = within segments (Objects Environments All)
+place_at path.Clients segments = within segments (Objects Clients All)
+place_at path.Groups segments = within segments (Access access.Groups)
+place_at path.Node segments = within segments (Objects Nodes (One (nth_segment 3 segments)))
+place_at path.Role segments = within segments (Objects Roles (One (nth_segment 3 segments)))
+place_at path.Environment segments = within segments (Objects Environments (One (nth_segment 3 segments)))
+place_at path.Client segments = within segments (Objects Clients (One (nth_segment 3 segments)))
+place_at path.Group segments = within segments (Access (access.Group (nth_segment 3 segments)))
+place_at path.Users segments = within segments (Access access.Users)
+place_at path.User segments = within segments (Access (access.User (nth_segment 3 segments)))
+place_at path.Containers segments = within segments (Access access.Containers)
+place_at path.Container segments = within segments (Access (access.Container (nth_segment 3 segments)))
+place_at path.AccessList segments = within segments (Access (access.List (nth_segment 2 segments) (nth_segment 3 segments)))
+place_at path.AccessEntry segments = within segments (Access (access.Entry (nth_segment 2 segments) (nth_segment 3 segments) (nth_segment 5 segments)))
+place_at path.DataBags segments = within segments (Data Bags)
+place_at path.DataBag segments = within segments (Data (Bag (nth_segment 3 segments)))
+place_at path.DataBagItem segments = within segments (Data (Item (nth_segment 3 segments) (nth_segment 4 segments)))
+place_at path.Sandboxes segments = within segments (Cookbooks cookbook.Sandboxes)
+place_at path.Sandbox segments = within segments (Cookbooks (cookbook.Sandbox (nth_segment 3 segments)))
+place_at path.File segments = within segments (Cookbooks (cookbook.File (nth_segment 3 segments)))
+place_at path.Cookbooks segments = within segments (Cookbooks cookbook.Cookbooks)
+place_at path.Cookbook segments = within segments (Cookbooks (cookbook.Cookbook (nth_segment 3 segments)))
+place_at path.CookbookVersion segments = within segments (Cookbooks (cookbook.Version (nth_segment 3 segments) (nth_segment 4 segments)))
+place_at path.Universe segments = within segments (Cookbooks cookbook.Universe)
+place_at path.Artifacts segments = within segments (Cookbooks cookbook.Artifacts)
+place_at path.Artifact segments = within segments (Cookbooks (cookbook.Artifact (nth_segment 3 segments) (nth_segment 4 segments)))
+place_at path.SolvedVersions segments = within segments (Cookbooks (cookbook.SolvedVersions (nth_segment 3 segments)))
+place_at path.Policies segments = within segments (Policies policy.Policies)
+place_at path.Policy segments = within segments (Policies (policy.Policy (nth_segment 3 segments)))
+place_at path.Revisions segments = within segments (Policies (policy.Revisions (nth_segment 3 segments)))
+place_at path.Revision segments = within segments (Policies (policy.Revision (nth_segment 3 segments) (nth_segment 5 segments)))
+place_at path.PolicyGroups segments = within segments (Policies policy.Groups)
+place_at path.PolicyGroup segments = within segments (Policies (policy.Group (nth_segment 3 segments)))
+place_at path.Assignment segments = within segments (Policies (policy.Assignment (nth_segment 3 segments) (nth_segment 5 segments)))
+place_at path.SearchIndexes segments = within segments (Search search.Indexes)
+place_at path.Search segments = within segments (Search (search.Index (nth_segment 3 segments)))
+
+-- the place of the path that was found, if one was
+abbrev pub place_found : Option Path → List (List ℕ) → Place
+place_found None segments = NoRoute
+place_found (Some p) segments = place_at p segments
+
+-- the place that a path's segments name; a path without segments names none
+abbrev pub place_of : Option (List (List ℕ)) → Place
+place_of None = NoRoute
+place_of (Some segments) = cond (is_left_out segments) LeftOut (place_found (path_at segments) segments)
+
+-- what the table says of the path that was found, if one was, and a method
+abbrev pub availability_found : Option Path → Verb → Availability
+availability_found None verb = Lacking
+availability_found (Some p) verb = availability p verb
+
+-- what the table says of the path that these segments name and a method
+abbrev pub availability_of : Option (List (List ℕ)) → Verb → Availability
+availability_of None verb = Lacking
+availability_of (Some segments) verb = cond (is_left_out segments) Lacking (availability_found (path_at segments) verb)
+
+-- both
+abbrev pub aim_of : Option (List (List ℕ)) → Verb → Aim
+aim_of segments verb = record { place = place_of segments; availability = availability_of segments verb }
 
 -- an organisation's name
 abbrev pub organisation_name_from : Option Doc → Option (List ℕ)
@@ -52,83 +145,18 @@ abbrev pub creation : Option (List ℕ) → Place
 creation None = Organisations
 creation (Some org) = Of org (Organisation Create)
 
--- `/organizations`: a POST creates the organisation that its body names
-abbrev pub organisations : Verb → Body → Place
-organisations Post body = creation (organisation_in_body body)
-organisations Get body = Organisations
-organisations Put body = Organisations
-organisations Delete body = Organisations
-organisations Other body = Organisations
+-- the place is `/organizations`
+abbrev pub is_organisations : Place → Bool
+is_organisations (Of org route) = false
+is_organisations Organisations = true
+is_organisations LeftOut = false
+is_organisations NoRoute = false
+is_organisations NoMemory = false
 
--- the first of these segments
-abbrev pub first_of : List (List ℕ) → List ℕ
-first_of [] = []
-first_of (segment ∷ rest) = segment
+-- the request creates an organisation, which its body names
+abbrev pub is_creation : Place → Verb → Bool
+is_creation place verb = is_organisations place && is_post verb
 
--- the segments behind the first
-abbrev pub rest_of : List (List ℕ) → List (List ℕ)
-rest_of [] = []
-rest_of (segment ∷ rest) = rest
-
--- the route that a path of the table stands for, with the names of an object and of an item in it
-abbrev pub route_at : Path → List ℕ → List ℕ → Route
-route_at path.Organisations name id = NotBuilt path.Organisations
-route_at path.Organisation name id = Organisation Whole
-route_at path.Nodes name id = Objects Nodes All
-route_at path.Roles name id = Objects Roles All
-route_at path.Environments name id = Objects Environments All
-route_at path.Clients name id = Objects Clients All
-route_at path.Groups name id = NotBuilt path.Groups
-route_at path.Node name id = Objects Nodes (One name)
-route_at path.Role name id = Objects Roles (One name)
-route_at path.Environment name id = Objects Environments (One name)
-route_at path.Client name id = Objects Clients (One name)
-route_at path.Group name id = NotBuilt path.Group
-route_at path.Users name id = NotBuilt path.Users
-route_at path.User name id = NotBuilt path.User
-route_at path.Containers name id = NotBuilt path.Containers
-route_at path.Container name id = NotBuilt path.Container
-route_at path.AccessList name id = NotBuilt path.AccessList
-route_at path.AccessEntry name id = NotBuilt path.AccessEntry
-route_at path.DataBags name id = Data Bags
-route_at path.DataBag name id = Data (Bag name)
-route_at path.DataBagItem name id = Data (Item name id)
-route_at path.Sandboxes name id = NotBuilt path.Sandboxes
-route_at path.Sandbox name id = NotBuilt path.Sandbox
-route_at path.File name id = NotBuilt path.File
-route_at path.Cookbooks name id = NotBuilt path.Cookbooks
-route_at path.Cookbook name id = NotBuilt path.Cookbook
-route_at path.CookbookVersion name id = NotBuilt path.CookbookVersion
-route_at path.Universe name id = NotBuilt path.Universe
-route_at path.Artifacts name id = NotBuilt path.Artifacts
-route_at path.Artifact name id = NotBuilt path.Artifact
-route_at path.SolvedVersions name id = NotBuilt path.SolvedVersions
-route_at path.Policies name id = NotBuilt path.Policies
-route_at path.Policy name id = NotBuilt path.Policy
-route_at path.Revisions name id = NotBuilt path.Revisions
-route_at path.Revision name id = NotBuilt path.Revision
-route_at path.PolicyGroups name id = NotBuilt path.PolicyGroups
-route_at path.PolicyGroup name id = NotBuilt path.PolicyGroup
-route_at path.Assignment name id = NotBuilt path.Assignment
-route_at path.SearchIndexes name id = NotBuilt path.SearchIndexes
-route_at path.Search name id = NotBuilt path.Search
-
--- the place of `/organizations/ORG/COLLECTION/NAME/ID`, of which the path may have only the first segments
-abbrev pub place_within : Path → List (List ℕ) → Place
-place_within p segments =
-    Of (first_of (rest_of segments))
-    (route_at p (first_of (rest_of (rest_of (rest_of segments)))) (first_of (rest_of (rest_of (rest_of (rest_of segments))))))
-
--- the place of a path of the table
-abbrev pub place_at : Verb → Body → List (List ℕ) → Path → Place
-place_at verb body segments p = cond (is_path p path.Organisations) (organisations verb body) (place_within p segments)
-
--- the place of the path that was found, if one was
-abbrev pub place_found : Verb → Body → List (List ℕ) → Option Path → Place
-place_found verb body segments None = NoRoute
-place_found verb body segments (Some p) = place_at verb body segments p
-
--- the place that a path's segments name; a path without segments names none
-abbrev pub place_of : Verb → Body → Option (List (List ℕ)) → Place
-place_of verb body None = NoRoute
-place_of verb body (Some segments) = cond (is_left_out segments) LeftOut (place_found verb body segments (path_at segments))
+-- the place once the body is known: that of a creation is of the organisation that the body names
+abbrev pub place_with : Place → Verb → Body → Place
+place_with place verb body = cond (is_creation place verb) (creation (organisation_in_body body)) place

@@ -1,28 +1,67 @@
-//! The body of a request.
+//! How the body of a request is read: by its place and its method, once its head is known.
 ghost use Rattle.doc_tree.specs.Read.{reads};
-ghost use Rattle.http_routes.specs.Bodies.{body_from, short_body};
+ghost use Rattle.http_routes.specs.Bodies as spec;
 ghost use Rattle.std.specs.Prelude.{◌≡◌, IfOk};
 
+use crate::places::is_creation;
 use doc_tree::{NoMemory, ReadFault, read_json};
-use org_machine::Body;
+use org_core::{Body, Place, Request};
+use org_machine::head_refusal;
 use route_table::Verb;
 use std::alloc::Global;
 
-/// The body of a message, by its verb: JSON where that is POST or PUT, and else dropped.
-///
-/// It is for a body of at most 4,194,304 bytes: of a longer one the caller makes `Body::TooLong`,
-/// whatever its bytes. `Body::Bad` holds the first fault of the JSON, never `ReadFault::NoMemory`.
-pub fn body_of(alloc: Global, verb: Verb, bytes: &[u8]) -> Result<Body, NoMemory>
-    ensures { IfOk result (λ body. body ≡ short_body verb bytes.now) }
+/// The form in which the bytes of a body are read.
+#[derive(Clone, Copy, Debug, PartialEq, Eq)]
+pub enum BodyForm {
+    /// They aren't looked at.
+    Dropped,
+    /// They are JSON.
+    Json,
+}
+
+/// The form of the body behind a head, which is a request without a body. It is dropped where the
+/// head alone refuses the request, but for a POST to `/organizations`, whose body tells whose
+/// request it is.
+pub(crate) fn form_in(head: &Request) -> BodyForm
+    ensures { result ≡ spec.form_in head.now }
+{
+    if is_looked_at(head) {
+        form_at(&head.place, head.verb)
+    } else {
+        BodyForm::Dropped
+    }
+}
+
+fn is_looked_at(head: &Request) -> bool
+    ensures { result ≡ spec.is_looked_at head.now }
+{
+    is_creation(&head.place, head.verb) || head_refusal(head).is_none()
+}
+
+// The form of a body by place and method. The bytes of a file will be a form of their own, for a PUT
+// to `files`: its case stands first.
+fn form_at(_place: &Place, verb: Verb) -> BodyForm
+    ensures { result ≡ spec.form_at _place.now verb }
 {
     match verb {
-        Verb::Post | Verb::Put => body_from(alloc, bytes),
-        Verb::Get | Verb::Delete | Verb::Other => Ok(Body::Empty),
+        Verb::Post | Verb::Put => BodyForm::Json,
+        Verb::Get | Verb::Delete | Verb::Other => BodyForm::Dropped,
+    }
+}
+
+/// A body of at most 4,194,304 bytes, by its form. Of a longer one the caller makes `Body::TooLong`,
+/// whatever its bytes. `Body::Bad` holds the first fault of the JSON, never `ReadFault::NoMemory`.
+pub fn body_of(alloc: Global, form: BodyForm, bytes: &[u8]) -> Result<Body, NoMemory>
+    ensures { IfOk result (λ body. body ≡ spec.short_body form bytes.now) }
+{
+    match form {
+        BodyForm::Dropped => Ok(Body::Empty),
+        BodyForm::Json => body_from(alloc, bytes),
     }
 }
 
 fn body_from(alloc: Global, bytes: &[u8]) -> Result<Body, NoMemory>
-    ensures { IfOk result (λ body. body ≡ body_from (reads bytes.now)) }
+    ensures { IfOk result (λ body. body ≡ spec.body_from (reads bytes.now)) }
 {
     match read_json(alloc, bytes) {
         Ok(tree) => Ok(Body::Doc(tree)),

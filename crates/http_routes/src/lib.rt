@@ -2,17 +2,20 @@
 #![tactic(auto)]
 
 mod bodies;
+mod connections;
 mod headers;
 mod parameters;
 mod places;
 mod requests;
 mod targets;
+#[cfg(test)]
+mod tests;
 mod verbs;
 
-pub use bodies::body_of;
+pub use bodies::{BodyForm, body_of};
+pub use connections::lists_close;
 pub use headers::{HeaderValue, api_of, caller_of};
 pub use parameters::parameters_of;
-pub use places::place_of;
 pub use requests::Head;
 pub use targets::segments_of;
 pub use verbs::verb_of;

@@ -1,211 +1,97 @@
 //! A whole request, from its head and then its body.
+ghost use Rattle.http_routes.specs.Bodies as bodies;
+ghost use Rattle.http_routes.specs.Connections.{closes};
 ghost use Rattle.http_routes.specs.Headers.{Stands};
-ghost use Rattle.http_routes.specs.Requests.{head_in, request_of};
+ghost use Rattle.http_routes.specs.Requests.{head_in, request_with};
 ghost use Rattle.std.specs.Prelude.{◌≡◌, ℕ, List, IfOk};
 
+use crate::bodies::{BodyForm, form_in};
 use crate::headers::{HeaderValue, api_of, caller_of};
 use crate::parameters::parameters_of;
-use crate::places::place_of;
+use crate::places::{aim_of, place_with};
 use crate::targets::segments_of;
 use crate::verbs::verb_of;
-use doc_tree::{NoMemory, Text, Texts};
-use org_machine::{Body, Parameters, Request};
-use route_table::{Routes, Verb};
+use doc_tree::NoMemory;
+use org_core::{Body, Request};
+use route_table::Routes;
 use std::alloc::Global;
 
-/// What the head of a message says of its request. The body comes later, by the verb.
+/// What the head of a message says of its request: all but the body, by which a POST to
+/// `/organizations` finds the organisation that it is of.
 #[derive(Drop)]
 pub struct Head {
-    verb: Verb,
-    caller: Option<Text>,
-    api: Option<u8>,
-    segments: Option<Texts>,
-    asked: Parameters,
+    request: Request,
 }
 
 impl Head {
-    /// Reads a head: its method, its target, and what it has of the headers `X-Ops-UserId` and
-    /// `X-Ops-Server-API-Version`. Only memory can be missing: each message has a head.
+    /// Reads a head, by the table of routes: its method, its target, what it has of the headers
+    /// `X-Ops-UserId` and `X-Ops-Server-API-Version`, and whether its `Connection` headers list the
+    /// option `close`. Only memory can be missing: each message has a head.
     pub fn read(
         alloc: Global,
+        routes: &Routes,
         method: &[u8],
         target: &[u8],
         caller: HeaderValue<'_>,
         version: HeaderValue<'_>,
+        close: bool,
     ) -> Result<Head, NoMemory>
-        ensures { (callers versions : List (List ℕ)) → Stands caller.entry callers
-            → Stands version.entry versions
-            → IfOk result (λ head. head ≡ head_in method.now target.now callers versions) }
+        ensures { (callers versions connections : List (List ℕ)) → Stands caller.entry callers
+            → Stands version.entry versions → close ≡ closes connections
+            → IfOk result (λ head. head.request ≡ head_in method.now target.now callers versions connections) }
     {
+        let verb = verb_of(method);
+        let aim = aim_of(alloc, routes, segments_of(alloc, target)?, verb)?;
         Ok(Head {
-            verb: verb_of(method),
-            caller: caller_of(alloc, caller)?,
-            api: api_of(version),
-            segments: segments_of(alloc, target)?,
-            asked: parameters_of(alloc, target)?,
+            request: Request {
+                caller: caller_of(alloc, caller)?,
+                api: api_of(version),
+                verb,
+                place: aim.place,
+                availability: aim.availability,
+                asked: parameters_of(alloc, target)?,
+                body: Body::Empty,
+                close,
+            },
         })
     }
 
-    /// The verb, by which a body is read.
-    pub fn verb(&self) -> Verb
-        ensures { result ≡ self.now.verb }
+    /// The form in which the body of this head is read.
+    pub fn body_form(&self) -> BodyForm
+        ensures { result ≡ bodies.form_in self.now.request }
     {
-        self.verb
+        form_in(&self.request)
     }
 
-    /// The request of this head and its body, by the table of routes.
-    pub fn with_body(self, alloc: Global, routes: &Routes, body: Body) -> Result<Request, NoMemory>
-        ensures { IfOk result (λ request. request ≡ request_of self body) }
+    /// The request of this head and its body.
+    pub fn with_body(self, alloc: Global, body: Body) -> Result<Request, NoMemory>
+        ensures { IfOk result (λ request. request ≡ request_with self.request body) }
     {
-        let Head {
-            verb,
-            caller,
-            api,
-            segments,
-            asked,
-        } = self;
-        Ok(Request {
-            caller,
-            api,
-            verb,
-            place: place_of(alloc, routes, verb, &body, segments)?,
-            asked,
-            body,
-        })
+        with_body(alloc, self.request, body)
     }
 }
 
-#[cfg(test)]
-mod tests {
-    use super::*;
-    use crate::bodies::body_of;
-    use org_machine::{DataRoute, ObjectsRoute, OrganisationRoute, Place, Route};
-    use std::test::Fail;
-
-    // The place in words: the route and the names in it.
-    fn shown(alloc: Global, place: &Place) -> Result<String, NoMemory> {
-        match place {
-            Place::Of { org, route } => shown_route(alloc, org.as_str(), route),
-            Place::Organisations => Ok(String::from_str(alloc, "organisations")?),
-            Place::LeftOut => Ok(String::from_str(alloc, "left out")?),
-            Place::NoRoute => Ok(String::from_str(alloc, "no route")?),
-            Place::NoMemory => Ok(String::from_str(alloc, "no memory")?),
-        }
-    }
-
-    fn shown_route(alloc: Global, org: &str, route: &Route) -> Result<String, NoMemory> {
-        Ok(match route {
-            Route::Organisation(OrganisationRoute::Create) => format!(in alloc; "create {org}")?,
-            Route::Organisation(OrganisationRoute::Whole) => format!(in alloc; "whole {org}")?,
-            Route::Objects(collection, ObjectsRoute::All) => {
-                let collection = collection.segment();
-                format!(in alloc; "{org} {collection}")?
-            }
-            Route::Objects(collection, ObjectsRoute::One(name)) => {
-                let collection = collection.segment();
-                format!(in alloc; "{org} {collection} {name}")?
-            }
-            Route::Data(DataRoute::Bags) => format!(in alloc; "{org} bags")?,
-            Route::Data(DataRoute::Bag(bag)) => format!(in alloc; "{org} bag {bag}")?,
-            Route::Data(DataRoute::Item(bag, id)) => format!(in alloc; "{org} item {bag} {id}")?,
-            Route::NotBuilt(_) => format!(in alloc; "{org} not built")?,
-        })
-    }
-
-    fn request(
-        alloc: Global,
-        routes: &Routes,
-        method: &str,
-        target: &str,
-        body: &str,
-    ) -> Result<Request, NoMemory> {
-        let caller = HeaderValue::One(b"pivotal");
-        let version = HeaderValue::Missing;
-        let head = Head::read(alloc, method.as_bytes(), target.as_bytes(), caller, version)?;
-        let body = body_of(alloc, head.verb(), body.as_bytes())?;
-        head.with_body(alloc, routes, body)
-    }
-
-    #[test]
-    fn a_request_names_its_place(rt: HostRuntime) -> Result<(), Fail> {
-        let alloc = rt.alloc();
-        let routes = Routes::take(alloc)?;
-        let acme = "{\"name\":\"acme\"}";
-        let cases = [
-            ("POST", "/organizations?x=1", acme, "create acme"),
-            (
-                "POST",
-                "/organizations",
-                "{\"a\":1,\"name\":\"a-1_b\"}",
-                "create a-1_b",
-            ),
-            (
-                "POST",
-                "/organizations",
-                "{\"name\":\"Acme\"}",
-                "organisations",
-            ),
-            ("POST", "/organizations", "{\"name\":7}", "organisations"),
-            ("POST", "/organizations", "[\"name\"]", "organisations"),
-            (
-                "POST",
-                "/organizations",
-                "{\"name\":\"acme\"",
-                "organisations",
-            ),
-            ("POST", "/organizations", "", "organisations"),
-            ("GET", "/organizations", acme, "organisations"),
-            ("post", "/organizations", acme, "organisations"),
-            ("GET", "/organizations/acme", "", "whole acme"),
-            ("POST", "/organizations/acme/nodes", acme, "acme nodes"),
-            ("GET", "/organizations/acme/%6eodes", "", "acme nodes"),
-            (
-                "PUT",
-                "/organizations/acme/nodes/web1",
-                acme,
-                "acme nodes web1",
-            ),
-            (
-                "GET",
-                "/organizations/acme/nodes/a%20b",
-                "",
-                "acme nodes a b",
-            ),
-            (
-                "GET",
-                "/organizations/acme/environments/e",
-                "",
-                "acme environments e",
-            ),
-            ("GET", "/organizations/acme/data", "", "acme bags"),
-            ("GET", "/organizations/acme/data/b", "", "acme bag b"),
-            ("GET", "/organizations/acme/data/b/i", "", "acme item b i"),
-            (
-                "GET",
-                "/organizations/acme/data/b/_acl",
-                "",
-                "acme not built",
-            ),
-            (
-                "GET",
-                "/organizations/acme/environments/e/cookbook_versions",
-                "",
-                "acme not built",
-            ),
-            ("GET", "/organizations/acme/nodes/a/b", "", "no route"),
-            ("GET", "/organizations/acme/nodes/a%2Fb", "", "no route"),
-            ("GET", "/organizations/acme/nodes/", "", "no route"),
-            ("GET", "/license", "", "no route"),
-            ("GET", "organizations", "", "no route"),
-            ("GET", "/users", "", "left out"),
-            ("GET", "/users/ann/keys", "", "left out"),
-            ("GET", "/organizations/acme/principals/ann", "", "left out"),
-        ];
-        for (method, target, body, expected) in cases {
-            let request = request(alloc, &routes, method, target, body)?;
-            let place = shown(alloc, &request.place)?;
-            assert_eq!(rt; place.as_str(), expected, "at {method} {target}");
-        }
-        Ok(())
-    }
+fn with_body(alloc: Global, head: Request, body: Body) -> Result<Request, NoMemory>
+    ensures { IfOk result (λ request. request ≡ request_with head body) }
+{
+    let Request {
+        caller,
+        api,
+        verb,
+        place,
+        availability,
+        asked,
+        body: _,
+        close,
+    } = head;
+    Ok(Request {
+        caller,
+        api,
+        verb,
+        place: place_with(alloc, place, verb, &body)?,
+        availability,
+        asked,
+        body,
+        close,
+    })
 }

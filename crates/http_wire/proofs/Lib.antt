@@ -7,3 +7,4 @@ pub mod ReplyLemmas
 pub mod SplitsLemmas
 pub mod RoomLemmas
 pub mod FieldLemmas
+pub mod ConnectionLemmas

@@ -1,11 +1,15 @@
+//! The body of a message, read to its end: what is looked at is kept.
 ghost use Rattle.std.specs.Prelude.{◌≡◌, ℕ, ◌+◌, ◌-◌, ◌<◌, ◌≤◌, ◌++◌, List, [], IfOk, IfSome, min, length, take, drop};
 ghost use Rattle.std.specs.Io.KnownBytes.{prepend_known};
+ghost use Rattle.http_routes.specs.declared.bodies.BodyForm.{BodyForm as Form};
+ghost use Rattle.http_routes.specs.declared.bodies.BodyForm.TheVariants.{Json};
 ghost use Rattle.http_wire.specs.Bodies.{IsBody};
 ghost use Rattle.http_wire.specs.Room.{stream};
 ghost use Rattle.http_wire.specs.Faults.{OnNotAMessage, OnReadFault, HasReadCause};
 
 use crate::faults::WireFault;
 use crate::room::Room;
+use http_routes::BodyForm;
 use outside_core::Source;
 use std::alloc::Global;
 
@@ -16,20 +20,24 @@ const LARGEST_KEPT: usize = 4_194_304;
 #[derive(Drop)]
 pub(crate) enum KeptBody {
     Whole(Vec<u8>),
+    /// It isn't looked at.
+    Skipped,
     /// It is larger than what is kept.
     TooLong,
     /// There was no memory for it.
     NoMemory,
 }
 
-/// Reads a body of this many bytes to its end.
+/// Reads a body of this form and of this many bytes to its end. It takes memory only for what is
+/// looked at.
 pub(crate) fn read_body<S: Source>(
     alloc: Global,
     room: &mut Room,
     source: &mut S,
+    form: BodyForm,
     size: usize,
 ) -> Result<KeptBody, WireFault>
-    ensures body { IfOk result (λ body. (bytes : List ℕ) × (length bytes ≡ size) × IsBody size bytes body
+    ensures body { IfOk result (λ body. (bytes : List ℕ) × (length bytes ≡ size) × IsBody form size bytes body
         × (stream room.old (S.left source.old) ≡ prepend_known bytes (stream room.new (S.left source.new)))) }
     ensures none { OnNotAMessage result (λ place. (place ≡ room.old.place)
         × IfSome (stream room.old (S.left source.old)) (λ bytes. length bytes < size)) }
@@ -39,7 +47,7 @@ pub(crate) fn read_body<S: Source>(
     ensures aside { S.aside source.new ≡ S.aside source.old }
     ensures cause { HasReadCause (S.faults source.old) (S.faults source.new) result }
 {
-    let mut body = begin(alloc, size);
+    let mut body = begin(alloc, form, size);
     let mut missing = size;
     'more: while missing > 0 {
         if !room.has_more(source)? {
@@ -53,13 +61,23 @@ pub(crate) fn read_body<S: Source>(
     Ok(body)
 }
 
-// Nothing yet of a body of this many bytes.
-fn begin(alloc: Global, size: usize) -> KeptBody
-    ensures { IsBody size [] result }
+// Nothing yet of a body of this form and of this many bytes.
+fn begin(alloc: Global, form: BodyForm, size: usize) -> KeptBody
+    ensures { IsBody form size [] result }
 {
     if size > LARGEST_KEPT {
         return KeptBody::TooLong;
     }
+    match form {
+        BodyForm::Dropped => KeptBody::Skipped,
+        BodyForm::Json => kept(alloc, size),
+    }
+}
+
+fn kept(alloc: Global, size: usize) -> KeptBody
+    requires { size ≤ 4194304 }
+    ensures { IsBody Json size [] result }
+{
     match Vec::with_capacity(alloc, size) {
         Ok(kept) => KeptBody::Whole(kept),
         Err(_) => KeptBody::NoMemory,
@@ -69,10 +87,11 @@ fn begin(alloc: Global, size: usize) -> KeptBody
 impl KeptBody {
     // The body with a piece behind what is kept of it.
     fn and(self, piece: &[u8]) -> KeptBody
-        ensures { (size : ℕ) (bytes : List ℕ) → IsBody size bytes self → IsBody size (bytes ++ piece.now) result }
+        ensures { (form : Form) (size : ℕ) (bytes : List ℕ) → IsBody form size bytes self → IsBody form size (bytes ++ piece.now) result }
     {
         match self {
             KeptBody::Whole(kept) => extended(kept, piece),
+            KeptBody::Skipped => KeptBody::Skipped,
             KeptBody::TooLong => KeptBody::TooLong,
             KeptBody::NoMemory => KeptBody::NoMemory,
         }
@@ -80,7 +99,7 @@ impl KeptBody {
 }
 
 fn extended(mut kept: Vec<u8>, piece: &[u8]) -> KeptBody
-    ensures { (size : ℕ) → size ≤ 4194304 → IsBody size (kept.items ++ piece.now) result }
+    ensures { (size : ℕ) → size ≤ 4194304 → IsBody Json size (kept.items ++ piece.now) result }
 {
     if kept.extend_from_slice(piece).is_err() {
         return KeptBody::NoMemory;

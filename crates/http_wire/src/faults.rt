@@ -1,3 +1,4 @@
+//! Why no message was read.
 use outside_core::Failed;
 
 /// Why no message was read.

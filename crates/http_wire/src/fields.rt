@@ -1,13 +1,15 @@
-ghost use Rattle.std.specs.Prelude.{◌≡◌, ℕ, ◌+◌, ◌*◌, ◌≤◌, ◌&&◌, ◌++◌, Some, None, if◌then◌else◌, nat_le, List, [], ◌∷◌, All, map, length};
+//! The headers of a message that are looked at.
+ghost use Rattle.std.specs.Prelude.{◌≡◌, ℕ, ◌+◌, ◌*◌, ◌≤◌, ◌&&◌, ◌++◌, Some, None, if◌then◌else◌, nat_le, List, [], ◌∷◌, All, codes, map, length};
 ghost use Rattle.std.specs.List.{list_all};
 ghost use Rattle.std.specs.Char.{is_ascii_digit, digit_value};
 ghost use Rattle.std.specs.Str.{str_eq_ignore_ascii_case};
 ghost use Rattle.std.specs.Str.Parse.{digits_value};
 ghost use Rattle.httparse.specs.Spans.{IsHeaderWithin, header_bytes};
 ghost use Rattle.http_wire.specs.Fields as spec;
+ghost use Rattle.http_routes.specs.Connections as connections;
 ghost use Rattle.http_routes.specs.Headers.{Stands};
 
-use http_routes::HeaderValue;
+use http_routes::{HeaderValue, lists_close};
 use httparse::spans::HeaderSpan;
 
 /// The largest body that a message may have, in bytes.
@@ -55,6 +57,32 @@ fn same_name(given: &[u8], name: &[u8]) -> bool
     ensures { result ≡ str_eq_ignore_ascii_case given.now name.now }
 {
     given.eq_ignore_ascii_case(name)
+}
+
+/// Whether a `Connection` header lists the option `close`.
+#[tactic(auto, unfolding(http_routes::specs::Connections::closes))]
+pub(crate) fn closes(held: &[u8], headers: &[HeaderSpan]) -> bool
+    requires { All (IsHeaderWithin (length held.now)) headers.now }
+    ensures { result ≡ connections.closes (spec.values_named (codes "connection") (map (header_bytes held.now) headers.now)) }
+{
+    let mut closed = false;
+    for header in headers {
+        closed = or_header(closed, held, *header);
+    }
+    closed
+}
+
+// Whether headers that say this, and one more behind them, list the option.
+#[tactic(auto, using(crate::proofs::ConnectionLemmas::closes_more))]
+fn or_header(closed: bool, held: &[u8], header: HeaderSpan) -> bool
+    requires { IsHeaderWithin (length held.now) header }
+    ensures { (values : List (List ℕ)) → closed ≡ connections.closes values
+        → result ≡ connections.closes (values ++ spec.values_named (codes "connection") (header_bytes held.now header ∷ [])) }
+{
+    if !same_name(header.name.of(held), b"connection") {
+        return closed;
+    }
+    closed || lists_close(header.value.of(held))
 }
 
 /// How many bytes the body has, or nothing where the head doesn't say it by one length.

@@ -1,3 +1,4 @@
+//! How a message is framed: its head, and the size that the head says of its body.
 ghost use Rattle.std.specs.Prelude.{◌≡◌, ℕ, ◌+◌, ◌-◌, ◌<◌, ◌≤◌, ◌++◌, List, IfOk, IfSome, IfNone, OnOk, OnErr, MatchBool, All, length, take, map};
 ghost use Rattle.std.specs.Io.KnownBytes.{IsAtEnd, prepend_known};
 ghost use Rattle.httparse.specs.Grammar.{RequestHead};
@@ -13,6 +14,7 @@ use crate::faults::WireFault;
 use crate::fields::body_length;
 use crate::heads::{MOST_HEADERS, read_head};
 use crate::room::Room;
+use http_routes::BodyForm;
 use httparse::Status;
 use httparse::spans::{EMPTY_HEADER_SPAN, HeaderSpan, RequestSpans, parse_request};
 use outside_core::Source;
@@ -75,18 +77,19 @@ fn size_of(held: &[u8], headers: &[HeaderSpan], place: u64, len: usize) -> Optio
     Some(size as usize)
 }
 
-/// Reads the body behind a head of this length, which stands at the front of the room, and lets go
+/// Reads the body of this form behind a head of this length, which stands at the front of the room, and lets go
 /// of the whole message.
 pub(crate) fn end_message<S: Source>(
     alloc: Global,
     room: &mut Room,
     source: &mut S,
     len: usize,
+    form: BodyForm,
     size: usize,
 ) -> Result<KeptBody, WireFault>
     requires head { len ≤ length room.old.held }
     requires ends { room.old.place + len + size ≤ 1099511627776 }
-    ensures body { IfOk result (λ body. (bytes : List ℕ) × (length bytes ≡ size) × IsBody size bytes body
+    ensures body { IfOk result (λ body. (bytes : List ℕ) × (length bytes ≡ size) × IsBody form size bytes body
         × (stream room.old (S.left source.old) ≡ prepend_known (take len room.old.held) (prepend_known bytes (stream room.new (S.left source.new))))) }
     ensures place { OnOk result (room.new.place ≡ room.old.place + (len + size)) }
     ensures none { OnNotAMessage result (λ place. (place ≡ room.old.place)
@@ -98,7 +101,7 @@ pub(crate) fn end_message<S: Source>(
     ensures cause { HasReadCause (S.faults source.old) (S.faults source.new) result }
 {
     room.drop_front(len);
-    let body = read_body(alloc, room, source, size)?;
+    let body = read_body(alloc, room, source, form, size)?;
     room.advance((len + size) as u64);
     Ok(body)
 }

@@ -1,3 +1,4 @@
+//! Replies as bytes.
 ghost use Rattle.std.specs.Prelude.{◌≡◌, ℕ, ◌+◌, ◌≤◌, ◌++◌, Bool, List, [], OnOk, OnErr, length};
 ghost use Rattle.std.specs.Io.KnownBytes.{append_known};
 ghost use Rattle.arrayvec.specs.ArrayVec.{array_vec_len};
@@ -7,7 +8,7 @@ ghost use Rattle.http_wire.specs.Replies as spec;
 
 use arrayvec::ArrayVec;
 use itoa::Buffer;
-use org_machine::Reply;
+use org_core::Reply;
 use outside_core::{Buffered, Failed, Sink};
 
 /// The most bytes that the head of a reply has, with some to spare.

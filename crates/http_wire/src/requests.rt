@@ -1,30 +1,31 @@
+//! The next message of a stream, as the request that it spells.
 ghost use Rattle.std.specs.Prelude.{◌≡◌, ℕ, ◌+◌, ◌-◌, ◌≤◌, List, IsErr, IsSome, IfOk, IfSome, IfNone, IsSomeAnd, OnErr, length};
 ghost use Rattle.std.specs.Io.KnownBytes.{IsAtEnd, prepend_known};
 ghost use Rattle.httparse.specs.Grammar.{RequestHead};
 ghost use Rattle.httparse.specs.Spans.{IsRequestAt, IsRequestWithin};
-ghost use Rattle.http_routes.specs.declared.requests.Head.{Head as Said};
-ghost use Rattle.http_routes.specs.Bodies.{body_in};
+ghost use Rattle.org_core.specs.declared.requests.Request.{Request as Said};
+ghost use Rattle.http_routes.specs.Bodies.{body_as, form_in};
 ghost use Rattle.http_routes.specs.Requests as spelled;
 ghost use Rattle.http_wire.specs.Bodies.{IsBody};
 ghost use Rattle.http_wire.specs.Faults.{OnNotAMessage, OnReadFault, NoneBeginsIn, HasReadCause};
 ghost use Rattle.http_wire.specs.Frames.{IsFramed};
 ghost use Rattle.http_wire.specs.Message.{Message, print_message, BeginsNone, NoneBegins, last_place};
-ghost use Rattle.http_wire.specs.Requests.{request_of, callers_in, versions_in, IsRead};
+ghost use Rattle.http_wire.specs.Requests.{request_of, callers_in, versions_in, connections_in, IsRead};
 ghost use Rattle.http_wire.specs.Room.{stream};
 ghost use Rattle.http_wire.specs.Splits.{Takes};
 
 use crate::bodies::KeptBody;
 use crate::faults::WireFault;
-use crate::fields::value_named;
+use crate::fields::{closes, value_named};
 use crate::frames::{Frame, begin_message, end_message};
 use crate::heads::MOST_HEADERS;
 use crate::room::Room;
 use doc_tree::NoMemory;
-use http_routes::{Head, body_of};
+use http_routes::{BodyForm, Head, body_of};
 use httparse::spans::{EMPTY_HEADER_SPAN, HeaderSpan, RequestSpans};
-use org_machine::{Body, Parameters, Place, Request};
+use org_core::{Body, Parameters, Place, Request};
 use outside_core::Source;
-use route_table::{Routes, Verb};
+use route_table::{Availability, Routes, Verb};
 use std::alloc::Global;
 
 /// Reads the next message of a stream to its end, as the request that it spells. `None` is the end
@@ -76,75 +77,91 @@ fn read_framed<S: Source>(
     ensures aside { S.aside source.new ≡ S.aside source.old }
     ensures cause { HasReadCause (S.faults source.old) (S.faults source.new) result }
 {
-    let head = read_parts(alloc, room.held(), headers, frame.spans);
-    let body = end_message(alloc, room, source, frame.spans.len, frame.size)?;
-    Ok(request_from(alloc, room.routes(), head, body))
+    let head = read_parts(alloc, room.routes(), room.held(), headers, frame.spans);
+    let form = body_form(&head);
+    let body = end_message(alloc, room, source, frame.spans.len, form, frame.size)?;
+    Ok(request_from(alloc, head, form, body))
 }
 
 // What the head says of the request, copied out of the room, which the body may need.
 fn read_parts(
     alloc: Global,
+    routes: &Routes,
     held: &[u8],
     headers: &[HeaderSpan],
     spans: RequestSpans,
 ) -> Result<Head, NoMemory>
     requires { IsRequestWithin held.now headers.now spans }
     ensures { (head : RequestHead) → IsRequestAt held.now headers.now spans head
-        → IfOk result (λ said. said ≡ spelled.head_in head.method head.target (callers_in head) (versions_in head)) }
+        → IfOk result (λ said. said.request ≡ spelled.head_in head.method head.target (callers_in head) (versions_in head) (connections_in head)) }
 {
     let headers = &headers[..spans.headers];
     let caller = value_named(held, headers, b"x-ops-userid");
     let version = value_named(held, headers, b"x-ops-server-api-version");
+    let close = closes(held, headers);
     Head::read(
         alloc,
+        routes,
         spans.method.of(held),
         spans.path.of(held),
         caller,
         version,
+        close,
     )
+}
+
+// The form of the body behind a head. A body whose head found no memory isn't looked at.
+fn body_form(head: &Result<Head, NoMemory>) -> BodyForm
+    ensures { IfOk head.now (λ said. result ≡ form_in said.request) }
+{
+    match head {
+        Ok(head) => head.body_form(),
+        Err(NoMemory) => BodyForm::Dropped,
+    }
 }
 
 // The request of a head and a body, or one without a place where memory was wanting for either.
 fn request_from(
     alloc: Global,
-    routes: &Routes,
     head: Result<Head, NoMemory>,
+    form: BodyForm,
     body: KeptBody,
 ) -> Request
-    ensures { (said : Said) (bytes : List ℕ) → IfOk head (λ h. h ≡ said) → IsBody (length bytes) bytes body
-        → IsRead result (spelled.request_of said (body_in said.verb bytes)) }
+    ensures { (said : Said) (bytes : List ℕ) → IfOk head (λ h. h.request ≡ said) → IfOk head (λ h. form ≡ form_in h.request)
+        → IsBody form (length bytes) bytes body → IsRead result (spelled.request_of said bytes) }
 {
     match head {
-        Ok(head) => request_with(alloc, routes, head, body),
+        Ok(head) => request_with(alloc, head, form, body),
         Err(NoMemory) => lost(alloc),
     }
 }
 
-fn request_with(alloc: Global, routes: &Routes, head: Head, body: KeptBody) -> Request
-    ensures { (bytes : List ℕ) → IsBody (length bytes) bytes body
-        → IsRead result (spelled.request_of head (body_in head.verb bytes)) }
+fn request_with(alloc: Global, head: Head, form: BodyForm, body: KeptBody) -> Request
+    ensures { (bytes : List ℕ) → form ≡ form_in head.request → IsBody form (length bytes) bytes body
+        → IsRead result (spelled.request_of head.request bytes) }
 {
-    match parsed(alloc, head.verb(), body) {
-        Ok(body) => placed(alloc, routes, head, body),
+    match parsed(alloc, form, body) {
+        Ok(body) => placed(alloc, head, body),
         Err(NoMemory) => lost(alloc),
     }
 }
 
-fn placed(alloc: Global, routes: &Routes, head: Head, body: Body) -> Request
-    ensures { IsRead result (spelled.request_of head body) }
+fn placed(alloc: Global, head: Head, body: Body) -> Request
+    ensures { IsRead result (spelled.request_with head.request body) }
 {
-    match head.with_body(alloc, routes, body) {
+    match head.with_body(alloc, body) {
         Ok(request) => request,
         Err(NoMemory) => lost(alloc),
     }
 }
 
-// The body as the verb wants it.
-fn parsed(alloc: Global, verb: Verb, body: KeptBody) -> Result<Body, NoMemory>
-    ensures { (bytes : List ℕ) → IsBody (length bytes) bytes body → IfOk result (λ b. b ≡ body_in verb bytes) }
+// The body in its form.
+fn parsed(alloc: Global, form: BodyForm, body: KeptBody) -> Result<Body, NoMemory>
+    ensures { (bytes : List ℕ) → IsBody form (length bytes) bytes body → IfOk result (λ b. b ≡ body_as form bytes) }
 {
     match body {
-        KeptBody::Whole(bytes) => body_of(alloc, verb, &bytes),
+        KeptBody::Whole(bytes) => body_of(alloc, form, &bytes),
+        KeptBody::Skipped => Ok(Body::Empty),
         KeptBody::TooLong => Ok(Body::TooLong),
         KeptBody::NoMemory => Err(NoMemory),
     }
@@ -159,7 +176,9 @@ fn lost(alloc: Global) -> Request
         api: None,
         verb: Verb::Other,
         place: Place::NoMemory,
+        availability: Availability::Lacking,
         asked: Parameters::new(alloc),
         body: Body::Empty,
+        close: false,
     }
 }

@@ -1,3 +1,4 @@
+//! Room for the bytes of a stream that were read and not yet used.
 ghost use Rattle.std.specs.Prelude.{◌≡◌, ℕ, ◌+◌, ◌<◌, ◌≤◌, ◌++◌, List, [], MatchBool, IfOk, OnErr, vec_len, length, take, drop};
 ghost use Rattle.std.specs.Io.KnownBytes.{IsAtEnd, prepend_known};
 ghost use Rattle.outside_core.specs.Failed.{HasCause};

@@ -1,7 +1,7 @@
-// Messages in pieces, what is no message, and the bytes of replies.
+//! Messages in pieces, what is no message, and the bytes of replies.
 use super::*;
 use doc_tree::{Bytes, NoMemory};
-use org_machine::{Body, Collection, ObjectsRoute, Place, Reply, Request, Route};
+use org_core::{Body, Collection, ObjectsRoute, Place, Reply, Request, Route};
 use outside_core::{Buffered, MemSink, MemSource};
 use route_table::Verb;
 use std::alloc::Global;
@@ -218,9 +218,16 @@ fn a_read_that_fails_is_a_fault_of_reading(rt: HostRuntime) -> Result<(), Fail> 
     Ok(())
 }
 
-// A POST with a body of this many bytes, and then a GET.
-fn body_of_size(alloc: Global, length: &[u8], size: usize) -> Result<Vec<u8>, NoMemory> {
-    let mut text = b"POST / HTTP/1.1\r\nContent-Length: ".to_vec(alloc)?;
+// A POST to this target with a body of this many bytes, and then a GET.
+fn body_of_size(
+    alloc: Global,
+    target: &[u8],
+    length: &[u8],
+    size: usize,
+) -> Result<Vec<u8>, NoMemory> {
+    let mut text = b"POST ".to_vec(alloc)?;
+    text.extend_from_slice(target)?;
+    text.extend_from_slice(b" HTTP/1.1\r\nContent-Length: ")?;
     text.extend_from_slice(length)?;
     text.extend_from_slice(b"\r\n\r\n")?;
     text.extend_from_slice(&vec![in alloc; b' '; size]?)?;
@@ -228,21 +235,106 @@ fn body_of_size(alloc: Global, length: &[u8], size: usize) -> Result<Vec<u8>, No
     Ok(text)
 }
 
-#[test]
-fn a_body_is_kept_up_to_4194304_bytes(rt: HostRuntime) -> Result<(), Fail> {
-    let alloc = rt.alloc();
-    for (length, size, expected) in [
-        (b"4194304", 4194304, "POST none none nobody 0 bad"),
-        (b"4194305", 4194305, "POST none none nobody 0 too long"),
-    ] {
-        let text = body_of_size(alloc, length, size)?;
-        let mut input = MemSource::new(text, 100000, Vec::new(alloc));
-        let mut room = Room::take(alloc)?;
-        let first = next(alloc, &mut input, &mut room)?;
-        assert_eq!(rt; first.as_str(), expected);
-        let second = next(alloc, &mut input, &mut room)?;
-        assert_eq!(rt; second.as_str(), "GET none none nobody 0 empty");
+// A target, the size of the body of a POST to it, and what is read.
+const BODIES: [(&str, &str, usize, &str); 4] = [
+    (
+        "/organizations",
+        "4194304",
+        4194304,
+        "POST none none nobody 0 bad",
+    ),
+    (
+        "/organizations",
+        "4194305",
+        4194305,
+        "POST none none nobody 0 too long",
+    ),
+    ("/", "4194304", 4194304, "POST none none nobody 0 empty"),
+    ("/", "4194305", 4194305, "POST none none nobody 0 too long"),
+];
+
+// What is read of a POST with a body, where the GET behind it is read too.
+fn read_sized(alloc: Global, text: Vec<u8>) -> Result<String, NoMemory> {
+    let mut input = MemSource::new(text, 100000, Vec::new(alloc));
+    let mut room = Room::take(alloc)?;
+    let first = next(alloc, &mut input, &mut room)?;
+    let second = next(alloc, &mut input, &mut room)?;
+    Ok(if second.as_str() == "GET none none nobody 0 empty" {
+        first
+    } else {
+        second
+    })
+}
+
+// What is read otherwise than it should be.
+fn unexpected_bodies(
+    alloc: Global,
+    cases: &[(&str, &str, usize, &str)],
+) -> Result<String, NoMemory> {
+    let mut told = String::new(alloc);
+    for (target, length, size, expected) in cases {
+        let text = body_of_size(alloc, target.as_bytes(), length.as_bytes(), *size)?;
+        let words = read_sized(alloc, text)?;
+        if words.as_str() != *expected {
+            told.push_str(words.as_str())?;
+        }
     }
+    Ok(told)
+}
+
+#[test]
+fn a_body_is_read_up_to_4194304_bytes_where_it_is_looked_at(rt: HostRuntime) -> Result<(), Fail> {
+    let wrong = unexpected_bodies(rt.alloc(), &BODIES)?;
+    assert_eq!(rt; wrong.as_str(), "");
+    Ok(())
+}
+
+// Headers, and whether they say that the connection is to be closed.
+const CLOSE: [(&str, &str); 14] = [
+    ("", "open"),
+    ("Connection: close\r\n", "close"),
+    ("connection:CLOSE\r\n", "close"),
+    ("Connection: keep-alive\r\n", "open"),
+    ("Connection: keep-alive, Close\r\n", "close"),
+    ("Connection: close, keep-alive\r\n", "close"),
+    ("Connection: keep-alive\r\nConnection: close\r\n", "close"),
+    ("Connection: close\r\nConnection: keep-alive\r\n", "close"),
+    ("Connection: x ,\t close\t ,y\r\n", "close"),
+    ("Connection:\r\n", "open"),
+    ("Connection: closed, clo se\r\n", "open"),
+    ("Connection: \"close\"\r\n", "open"),
+    ("X-Connection: close\r\n", "open"),
+    ("Connection: upgrade\r\nUpgrade: close\r\n", "open"),
+];
+
+// What becomes of the connection behind a message with these headers.
+fn connection(alloc: Global, headers: &str) -> Result<&'static str, NoMemory> {
+    let mut text = b"GET / HTTP/1.1\r\n".to_vec(alloc)?;
+    text.extend_from_slice(headers.as_bytes())?;
+    text.extend_from_slice(b"\r\n")?;
+    let mut input = MemSource::new(text, 100, Vec::new(alloc));
+    let mut room = Room::take(alloc)?;
+    match read_message(alloc, &mut input, &mut room) {
+        Ok(Some(request)) => Ok(if request.close { "close" } else { "open" }),
+        _ => Ok("none"),
+    }
+}
+
+// The headers that say otherwise than they should.
+fn unexpected_connections(alloc: Global, cases: &[(&str, &str)]) -> Result<String, NoMemory> {
+    let mut told = String::new(alloc);
+    for (headers, expected) in cases {
+        if connection(alloc, headers)? != *expected {
+            told.push_str(headers)?;
+        }
+    }
+    Ok(told)
+}
+
+#[test]
+fn a_connection_header_closes(rt: HostRuntime) -> Result<(), Fail> {
+    let wrong = unexpected_connections(rt.alloc(), &CLOSE)?;
+    assert_eq!(rt; wrong.as_str(), "");
     Ok(())
 }
 

@@ -1,3 +1,13 @@
+pub mod CopyingLemmas
+pub mod FoundLemmas
+pub mod ItemsLemmas
+pub mod KeysLemmas
+pub mod LateLemmas
+pub mod ListedLemmas
+pub mod ListingLemmas
+pub mod MovesLemmas
 pub mod NamesLemmas
 pub mod ObjectsLemmas
-pub mod SortedLemmas
+pub mod PlacesLemmas
+pub mod ShelvesLemmas
+pub mod ViewLemmas

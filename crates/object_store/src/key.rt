@@ -2,8 +2,10 @@
 ghost use Rattle.std.specs.Prelude.{◌≡◌, ◌++◌, IfOk, Some, refl};
 ghost use Rattle.std.specs.Cmp.{partial_equiv_from_equiv, eq_by_cmp_equiv, partial_order_from_total};
 ghost use Rattle.std.specs.Hash as fed;
-ghost use Rattle.object_store.specs.Keys.{same_key, key_cmp, key_cmp_total, is_of, place_of, hashed, hashed_alike};
+ghost use Rattle.object_store.specs.Items.{item_name};
+ghost use Rattle.object_store.specs.Keys.{key, same_key, key_cmp, key_cmp_total, is_of, place_of, hashed, hashed_alike};
 
+use crate::item::is_item;
 use doc_tree::{Kind, NoMemory, Text};
 use std::alloc::Global;
 use std::cmp::Ordering;
@@ -35,6 +37,20 @@ impl Key {
         ensures { result ≡ is_of kind self.now }
     {
         place_of(kind) == place_of(self.kind)
+    }
+
+    /// Whether it is of this kind and has this name.
+    pub(crate) fn is_named(&self, kind: Kind, name: &str) -> bool
+        ensures { result ≡ same_key (key kind name.now) self.now }
+    {
+        self.is_of(kind) && name == self.name.as_str()
+    }
+
+    /// Whether it is that of the bag's item of this id.
+    pub(crate) fn is_item(&self, bag: &str, id: &str) -> bool
+        ensures { result ≡ same_key (key Kind.Item (item_name bag.now id.now)) self.now }
+    {
+        self.is_of(Kind::Item) && is_item(self.name.as_str(), bag, id)
     }
 }
 

@@ -1,8 +1,14 @@
 //! The objects of one organisation, by their kinds and names.
 #![tactic(auto)]
 
+mod item;
+mod items;
 mod key;
+mod late;
+mod listing;
 mod objects;
+mod place;
+mod shelves;
 #[cfg(test)]
 mod tests;
 

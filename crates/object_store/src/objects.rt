@@ -1,23 +1,41 @@
 //! The objects of an organisation, by their keys.
-ghost use Rattle.std.specs.Prelude.{◌≡◌, ◌+◌, ◌<◌, ◌≤◌, IfOk, OnOk, option_map, is_some};
+ghost use Rattle.std.specs.Prelude.{◌≡◌, ◌+◌, ◌<◌, ◌≤◌, IfOk, None, OnOk, cond, option_copied, option_map, is_some, string_bytes};
 ghost use Rattle.std.specs.FinMap as finite;
+ghost use Rattle.std.specs.List.{filter_map};
 ghost use Rattle.doc_tree.specs.Tree.{doc_of};
-ghost use Rattle.indexmap.specs.IndexMap.{insert_entry, keys, IsUnique};
-ghost use Rattle.object_store.specs.Keys.{names_of, same_key};
+ghost use Rattle.indexmap.specs.IndexMap.{get, spare};
+ghost use Rattle.doc_tree.specs.Valid.{InOrder};
+ghost use Rattle.object_store.specs.declared.key.Key.{Key as AKey};
+ghost use Rattle.object_store.specs.Keys.{key, same_key};
+ghost use Rattle.object_store.specs.Kept.{found, IsReady};
 ghost use Rattle.object_store.specs.Objects.{names_in};
+ghost use Rattle.object_store.specs.Items.{behind_front, item_front, item_name, ids_in};
 
+use crate::item::id_in;
+use crate::items::{add_settled_names, find_item, find_settled, has_slash};
 use crate::key::Key;
+use crate::late::{Late, add_late_ids, add_late_names, copy_late, seek, seek_item};
+use crate::listing::in_order;
+use crate::place::place;
+use crate::shelves::{Shelves, add_names, copy_shelves, make_room, put_on, take};
 use doc_tree::{Kind, NoMemory, Steps, Text, Texts, Tree};
 use indexmap::IndexMap;
 use std::alloc::Global;
+use std::collections::BTreeSet;
+use std::hash::RandomState;
 use std::marker::Model;
 use std::sync::ledger::Ledger;
 
 /// Objects by their keys, with room for a number of further ones. Contracts see the finite map of
 /// their documents, and the room.
+///
+/// Each kind has a shelf, and so has each bag for its items, so that a listing looks at one shelf
+/// alone. What is put in waits beside the shelves, where there is room for it whatever its key, and
+/// goes to its shelf when room is made next: room is made for few objects at a time.
 #[derive(Drop)]
 pub struct Objects {
-    kept: IndexMap<Key, Tree>,
+    late: Late,
+    shelves: Shelves,
 }
 
 impl Model for Objects {
@@ -30,16 +48,17 @@ impl Model for Objects {
     ghost use Rattle.indexmap.specs.IndexMap.{spare};
     ghost use Rattle.object_store.specs.Kept.{objects_in};
 
-    ghost view = { λ m. record { objects = objects_in m.kept; spare = spare m.kept } };
+    ghost view = { λ m. record { objects = objects_in m.late m.shelves; spare = spare m.late } };
 }
 
 impl Objects {
     /// No objects, and no room for any. It takes no memory.
-    pub fn none(alloc: Global) -> Objects
+    pub fn none(alloc: Global, hasher: RandomState) -> Objects
         ensures { result.objects ≡ finite.empty }
     {
         Objects {
-            kept: IndexMap::new(alloc),
+            late: IndexMap::with_hasher(alloc, hasher),
+            shelves: IndexMap::with_hasher(alloc, hasher),
         }
     }
 
@@ -49,7 +68,8 @@ impl Objects {
         ensures ok { OnOk result (count ≤ self.new.spare) }
         ensures spare { self.old.spare ≤ self.new.spare }
     {
-        self.kept.reserve(count)?;
+        settle(&mut self.late, &mut self.shelves)?;
+        self.late.reserve(count)?;
         Ok(())
     }
 
@@ -61,7 +81,9 @@ impl Objects {
         ensures before { option_map doc_of result ≡ finite.get self.old.objects key }
         ensures spare { self.old.spare ≤ self.new.spare + 1 }
     {
-        self.kept.insert(key, tree).ok().flatten()
+        let before = take_from(&mut self.late, &mut self.shelves, &key);
+        let _ = self.late.insert(key, tree);
+        before
     }
 
     /// Takes the object of this key out, if there is one, and gives it back. It takes no memory.
@@ -70,7 +92,7 @@ impl Objects {
         ensures taken { option_map doc_of result ≡ finite.get self.old.objects key.now }
         ensures spare { self.old.spare ≤ self.new.spare }
     {
-        self.kept.swap_remove(key)
+        take_from(&mut self.late, &mut self.shelves, key)
     }
 
     /// The object of this key, if there is one. It counts one step: no other call looks at a body.
@@ -79,57 +101,173 @@ impl Objects {
         ensures ticks { steps.new ≡ steps.old + 1 }
     {
         steps.tick();
-        self.kept.get(key)
+        match self.late.get(key) {
+            Some(tree) => Some(tree),
+            None => find_settled(&self.shelves, key.kind, key.name.as_str()),
+        }
     }
 
-    /// Whether there is an object of this key. It looks at no body.
-    pub fn has(&self, key: &Key) -> bool
-        ensures { result ≡ is_some (finite.get self.now.objects key.now) }
+    /// The object of this kind and name, which is not copied. It counts one step.
+    pub fn look_up<L: Ledger>(&self, kind: Kind, name: &str, steps: &mut Steps<L>) -> Option<&Tree>
+        ensures object { option_map (λ t. doc_of t.now) result ≡ finite.get self.now.objects (key kind name.now) }
+        ensures ticks { steps.new ≡ steps.old + 1 }
     {
-        self.kept.contains_key(key)
+        steps.tick();
+        look(&self.late, &self.shelves, kind, name)
+    }
+
+    /// Whether there is an object of this kind and name. It looks at no body and copies no name.
+    pub fn has(&self, kind: Kind, name: &str) -> bool
+        ensures { result ≡ is_some (finite.get self.now.objects (key kind name.now)) }
+    {
+        look(&self.late, &self.shelves, kind, name).is_some()
+    }
+
+    /// The item of this id in this bag, whose name is not joined. It counts one step.
+    pub fn item<L: Ledger>(&self, bag: &str, id: &str, steps: &mut Steps<L>) -> Option<&Tree>
+        ensures object { option_map (λ t. doc_of t.now) result ≡ finite.get self.now.objects (key Kind.Item (item_name bag.now id.now)) }
+        ensures ticks { steps.new ≡ steps.old + 1 }
+    {
+        steps.tick();
+        look_item(&self.late, &self.shelves, bag, id)
+    }
+
+    /// Whether a bag has an item of this id. It looks at no body and joins no name.
+    pub fn has_item(&self, bag: &str, id: &str) -> bool
+        ensures { result ≡ is_some (finite.get self.now.objects (key Kind.Item (item_name bag.now id.now))) }
+    {
+        look_item(&self.late, &self.shelves, bag, id).is_some()
     }
 
     /// The names of the objects of a kind, in the order of their bytes. It looks at no body.
     pub fn names(&self, alloc: Global, kind: Kind) -> Result<Texts, NoMemory>
-        ensures { IfOk result (λ names. names ≡ names_in kind self.now.objects) }
+        ensures value { IfOk result (λ names. names ≡ names_in kind self.now.objects) }
+        ensures order { IfOk result InOrder }
     {
-        let mut names = names_as_kept(alloc, &self.kept, kind)?;
-        names.sort_unstable();
-        Ok(Texts::of(names))
+        let mut names = BTreeSet::new(alloc);
+        add_late_names(alloc, &self.late, kind, &mut names)?;
+        add_settled_names(alloc, &self.shelves, kind, &mut names)?;
+        in_order(alloc, names)
+    }
+
+    /// The ids of a bag's items, in the order of their bytes. It looks at no body.
+    pub fn ids(&self, alloc: Global, bag: &str) -> Result<Texts, NoMemory>
+        ensures value { IfOk result (λ ids. ids ≡ ids_in bag.now self.now.objects) }
+        ensures order { IfOk result InOrder }
+    {
+        if has_slash(bag) {
+            // No bag's name has a slash, so no request comes here.
+            let names = self.names(alloc, Kind::Item)?;
+            return ids_among(alloc, bag, names.as_slice());
+        }
+        let mut ids = BTreeSet::new(alloc);
+        add_late_ids(alloc, &self.late, bag, &mut ids)?;
+        add_names(alloc, &self.shelves, bag, &mut ids)?;
+        in_order(alloc, ids)
     }
 
     /// Equal objects with memory of their own, and room for no more.
     pub fn copy(&self, alloc: Global) -> Result<Objects, NoMemory>
         ensures { IfOk result (λ o. o.objects ≡ self.now.objects) }
     {
-        let mut kept = IndexMap::with_capacity(alloc, self.kept.len())?;
-        for (key, tree) in &self.kept {
-            keep(&mut kept, key.copy(alloc)?, tree.copy(alloc)?)?;
-        }
-        Ok(Objects { kept })
+        Ok(Objects {
+            late: copy_late(alloc, &self.late)?,
+            shelves: copy_shelves(alloc, *self.late.hasher(), &self.shelves)?,
+        })
     }
 }
 
-fn names_as_kept(
-    alloc: Global,
-    kept: &IndexMap<Key, Tree>,
-    kind: Kind,
-) -> Result<Vec<Text>, NoMemory>
-    ensures names { IfOk result (λ names. names.items ≡ names_of kind (keys kept.now)) }
-    ensures unique { OnOk result (IsUnique same_key kept.now) }
+// The object of this kind and name: what came late goes before what is on the shelf.
+fn look<'a>(late: &'a Late, shelves: &'a Shelves, kind: Kind, name: &str) -> Option<&'a Tree>
+    ensures { option_copied result ≡ found late.now shelves.now (key kind name.now) }
 {
-    let mut names = Vec::new(alloc);
-    for (key, _) in kept {
-        if key.is_of(kind) {
-            names.push(key.name.copy(alloc)?)?;
-        }
+    match seek(late, kind, name) {
+        Some(tree) => Some(tree),
+        None => find_settled(shelves, kind, name),
     }
-    Ok(names)
 }
 
-fn keep(kept: &mut IndexMap<Key, Tree>, key: Key, tree: Tree) -> Result<(), NoMemory>
-    ensures { OnOk result (kept.new.entries ≡ insert_entry same_key kept.old.entries key tree) }
+fn look_item<'a>(late: &'a Late, shelves: &'a Shelves, bag: &str, id: &str) -> Option<&'a Tree>
+    ensures { option_copied result ≡ found late.now shelves.now (key Kind.Item (item_name bag.now id.now)) }
 {
-    kept.insert(key, tree)?;
+    match seek_item(late, bag, id) {
+        Some(tree) => Some(tree),
+        None => find_item(shelves, bag, id),
+    }
+}
+
+fn take_from(late: &mut Late, shelves: &mut Shelves, key: &Key) -> Option<Tree>
+    ensures taken { result ≡ found late.old shelves.old key.now }
+    ensures left { (k : AKey) → found late.new shelves.new k ≡ cond (same_key key.now k) None (found late.old shelves.old k) }
+    ensures spare { spare late.old ≤ spare late.new }
+{
+    let waiting = take_late(late, key);
+    let (word, name) = place(key.kind, key.name.as_str());
+    let settled = take(shelves, word, name);
+    waiting.or(settled)
+}
+
+// The object of this key goes where it came late. Where none did, nothing is hashed.
+fn take_late(late: &mut Late, key: &Key) -> Option<Tree>
+    ensures taken { result ≡ get same_key late.old key.now }
+    ensures left { (k : AKey) → get same_key late.new k ≡ cond (same_key key.now k) None (get same_key late.old k) }
+    ensures spare { spare late.old ≤ spare late.new }
+{
+    if late.is_empty() {
+        return None;
+    }
+    late.swap_remove(key)
+}
+
+// Each object that came late goes to its shelf.
+fn settle(late: &mut Late, shelves: &mut Shelves) -> Result<(), NoMemory>
+    ensures same { (k : AKey) → found late.new shelves.new k ≡ found late.old shelves.old k }
+    ensures spare { spare late.old ≤ spare late.new }
+{
+    for _ in 0..late.len() {
+        settle_last(late, shelves)?;
+    }
     Ok(())
+}
+
+fn settle_last(late: &mut Late, shelves: &mut Shelves) -> Result<(), NoMemory>
+    ensures same { (k : AKey) → found late.new shelves.new k ≡ found late.old shelves.old k }
+    ensures spare { spare late.old ≤ spare late.new }
+{
+    let alloc = *late.allocator();
+    let hasher = *late.hasher();
+    let Some((key, _)) = late.last() else {
+        return Ok(());
+    };
+    let (word, name) = place(key.kind, key.name.as_str());
+    let name = String::from_str(alloc, name)?;
+    make_room(shelves, alloc, hasher, word)?;
+    move_last(late, shelves, name);
+    Ok(())
+}
+
+// The last of those that came late goes to its shelf. It takes no memory.
+fn move_last(late: &mut Late, shelves: &mut Shelves, name: String)
+    requires { IsReady late.old shelves.old (string_bytes name) }
+    ensures same { (k : AKey) → found late.new shelves.new k ≡ found late.old shelves.old k }
+    ensures spare { spare late.old ≤ spare late.new }
+{
+    if let Some((key, tree)) = late.pop() {
+        let (word, _) = place(key.kind, key.name.as_str());
+        put_on(shelves, word, name, tree);
+    }
+}
+
+fn ids_among(alloc: Global, bag: &str, names: &[Text]) -> Result<Texts, NoMemory>
+    requires { InOrder names.now }
+    ensures value { IfOk result (λ ids. ids ≡ filter_map (behind_front (item_front bag.now)) names.now) }
+    ensures order { IfOk result InOrder }
+{
+    let mut ids = Texts::new(alloc);
+    for name in names {
+        if let Some(id) = id_in(bag, name.as_str()) {
+            ids.push(Text::from_str(alloc, id)?)?;
+        }
+    }
+    Ok(ids)
 }

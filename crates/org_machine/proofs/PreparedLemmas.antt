@@ -1,39 +1,122 @@
 -- A request that was prepared as the step says, or refused for want of memory, is answered as its mark says.
-use Rattle.std.proofs.Common.{◌≡◌, Bool, None, Option, is_some, inl, inr, sym, ap, subst, ◌∙◌}
-use Rattle.org_machine.specs.declared.changes.Prepared.{Prepared}
-use Rattle.org_machine.specs.declared.refusals.Refusal.{Refusal}
-use Rattle.org_machine.specs.declared.requests.Request.{Request}
-use Rattle.org_machine.specs.Marks.{mark_of, short, answer, IsLawful}
-use Rattle.org_machine.specs.Refusals.{first_some}
-use Rattle.org_machine.specs.Serving.{Does}
-use Rattle.org_machine.specs.States.{State, Kept}
-use Rattle.org_machine.specs.Steps.{first_refusals, deed_at, unless_first, unless_body, step}
-use Rattle.org_machine.proofs.Served.{step_is_served}
+use Rattle.std.proofs.Common.{◌≡◌, ◌≤◌, ◌+◌, ◌⊎◌, ℕ, List, [], ◌∷◌, Result, Ok, Err, inl, inr, refl, sym, ap, subst, ◌∙◌, arith}
+use Rattle.org_core.specs.declared.groups.Prepared.{Prepared}
+use Rattle.org_core.specs.declared.moves.Move.{Move}
+use Rattle.org_core.specs.declared.needs.Permission.TheVariants as permission
+use Rattle.org_core.specs.declared.refusals.Refusal.{Refusal}
+use Rattle.org_core.specs.declared.refusals.Refusal.TheVariants.{TooLarge, VersionNotTaken, NotImplemented, NotFound, NotAllowed, UnknownCaller, NotJson, TooDeep, NotWhole, BadField, Forbidden, AlreadyExists}
+use Rattle.org_core.specs.declared.requests.Request.{Request}
+use Rattle.org_core.specs.Moves.{after_moves, puts_in}
+use Rattle.org_core.specs.Outcomes.{Told, shows, makes, gives, Done, Decided, Finds, reply_of, outcome_of, LooksAtMost}
+use Rattle.org_core.specs.Refusals.{reply_to, out_of_memory}
+use Rattle.org_core.specs.States.{State, Kept, room_in}
+use Rattle.org_machine.specs.Marks.{Mark, mark_of, served, short, answer, after, IsLawful}
+use Rattle.org_machine.specs.Serving.{IsGood, ComesWith, IsDue, IsShort, Does, Looks}
+use Rattle.org_machine.specs.Steps.{decided, step, looks}
 
--- a step that nothing refuses before its body is looked at
-pub Does-step : (prepared : Prepared) (request : Request) (state : State) (kept : Kept) (there : Bool) (found : Option Refusal)
-    → there ≡ is_some state → found ≡ first_some (first_refusals request.place request there) → found ≡ None
-    → Does prepared (unless_body request.place state (deed_at request.place request.verb request.body)) state kept
-    → Does prepared (step request state) state kept
-Does-step prepared request state kept there found is_there first none done =
-    let unrefused = sym none ∙ first ∙ ap (λ b. first_some (first_refusals request.place request b)) is_there in
-    subst (λ o. Does prepared (unless_first request.place request state o) state kept) unrefused done
+-- what is told of an operation is served
+told_is_served : (told : Told) → mark_of (reply_of told) ≡ served
+told_is_served (shows doc) = refl
+told_is_served (makes doc) = refl
+told_is_served (gives bytes) = refl
 
--- its reply is the one by its mark
-pub reply_due : (prepared : Prepared) (request : Request) (state : State) (kept : Kept) → Does prepared (step request state) state kept
-    → prepared.reply ≡ answer (mark_of prepared.reply) request state
-reply_due prepared request state kept (inl p) =
-    let mark = ap mark_of p.reply ∙ step_is_served request state in
-    p.reply ∙ ap (λ m. answer m request state) (sym mark)
-reply_due prepared request state kept (inr p) =
+-- and so is the reply to a refusal
+refusal_is_served : (refusal : Refusal) → mark_of (reply_to refusal) ≡ served
+refusal_is_served TooLarge = refl
+refusal_is_served VersionNotTaken = refl
+refusal_is_served NotImplemented = refl
+refusal_is_served NotFound = refl
+refusal_is_served NotAllowed = refl
+refusal_is_served UnknownCaller = refl
+refusal_is_served NotJson = refl
+refusal_is_served TooDeep = refl
+refusal_is_served NotWhole = refl
+refusal_is_served (BadField field) = refl
+refusal_is_served (Forbidden permission) = refl
+refusal_is_served AlreadyExists = refl
+
+outcome_is_served : (answer : Result Done Refusal) → mark_of (outcome_of answer).reply ≡ served
+outcome_is_served (Ok done) = told_is_served done.told
+outcome_is_served (Err refusal) = refusal_is_served refusal
+
+-- no step is answered 500 or 503
+pub step_is_served : (request : Request) (state : State) → mark_of (step request state).reply ≡ served
+step_is_served request state = outcome_is_served (decided request state).answer
+
+-- what is told of an operation is 200 or 201
+told_is_good : (told : Told) → IsGood (reply_of told).status
+told_is_good (shows doc) = inl refl
+told_is_good (makes doc) = inr refl
+told_is_good (gives bytes) = inl refl
+
+comes_with : (answer : Result Done Refusal) → ComesWith (outcome_of answer).reply.status (outcome_of answer).moves
+comes_with (Ok done) = inr (told_is_good done.told)
+comes_with (Err refusal) = inl refl
+
+unless_good : (status : ℕ) (moves : List Move) → ComesWith status moves → (IsGood status → ⊥) → moves ≡ []
+unless_good status moves (inl none) bad = none
+unless_good status moves (inr good) bad = absurd (bad good)
+
+-- a step that isn't answered 200 or 201 makes no move
+pub no_moves : (request : Request) (state : State) → (IsGood (step request state).reply.status → ⊥) → (step request state).moves ≡ []
+no_moves request state bad = unless_good _ _ (comes_with (decided request state).answer) bad
+
+-- what holds of a prepared request
+pub record IsPrepared (prepared : Prepared) (request : Request) (state : State) (kept : Kept) (before now : ℕ) : Type 0 where
+  pub reply : prepared.reply ≡ answer (mark_of prepared.reply) request state
+  pub lawful : IsLawful (mark_of prepared.reply) request state
+  pub moves : after_moves prepared.moves state ≡ after (mark_of prepared.reply) request state
+  pub made : ComesWith prepared.reply.status prepared.moves
+  pub room : puts_in prepared.moves ≤ room_in kept
+  pub looks : Looks prepared.reply request state before now
+
+-- it took just the looks of the step, and so at most these
+exactly : (before now count : ℕ) → now ≡ before + count → LooksAtMost count before now
+exactly before now count is = (omega (arith, is), omega (arith, is))
+
+no_room_needed : (moves : List Move) (room : ℕ) → moves ≡ [] → puts_in moves ≤ room
+no_room_needed moves room none = subst (λ ms. puts_in ms ≤ room) (sym none) (omega arith)
+
+short≢served : short ≡ served → ⊥
+short≢served same = cc
+
+pub is_prepared : (prepared : Prepared) (request : Request) (state : State) (kept : Kept) (before now : ℕ)
+    → Does prepared (decided request state) kept before now → IsPrepared prepared request state kept before now
+is_prepared prepared request state kept before now (inl p) =
+    let mark : mark_of prepared.reply ≡ served = ap mark_of p.reply ∙ step_is_served request state in
+    record {
+      reply = p.reply ∙ ap (λ m. answer m request state) (sym mark);
+      lawful = subst (λ m. IsLawful m request state) (sym mark) tt;
+      moves = ap (λ ms. after_moves ms state) p.moves ∙ ap (λ m. after m request state) (sym mark);
+      made =
+          subst (λ ms. ComesWith prepared.reply.status ms) (sym p.moves)
+          (subst (λ r. ComesWith r.status (step request state).moves) (sym p.reply) (comes_with (decided request state).answer));
+      room = p.room;
+      looks = record { exact = λ _. p.looked; most = exactly before now (looks request state) p.looked };
+    }
+is_prepared prepared request state kept before now (inr p) =
     let mark : mark_of prepared.reply ≡ short = ap mark_of p.reply in
-    p.reply ∙ ap (λ m. answer m request state) (sym mark)
+    record {
+      reply = p.reply ∙ ap (λ m. answer m request state) (sym mark);
+      lawful = subst (λ m. IsLawful m request state) (sym mark) tt;
+      moves = ap (λ ms. after_moves ms state) p.moves ∙ ap (λ m. after m request state) (sym mark);
+      made = inl p.moves;
+      room = no_room_needed prepared.moves (room_in kept) p.moves;
+      looks = record { exact = λ is. absurd (short≢served (sym mark ∙ is)); most = p.looked };
+    }
 
--- and that mark is lawful
-pub mark_lawful : (prepared : Prepared) (request : Request) (state : State) (kept : Kept) → Does prepared (step request state) state kept
-    → IsLawful (mark_of prepared.reply) request state
-mark_lawful prepared request state kept (inl p) =
-    subst (λ m. IsLawful m request state) (sym (ap mark_of p.reply ∙ step_is_served request state)) tt
-mark_lawful prepared request state kept (inr p) =
-    let mark : mark_of prepared.reply ≡ short = ap mark_of p.reply in
-    subst (λ m. IsLawful m request state) (sym mark) tt
+-- what was found has the reply and the moves that are due
+found_is_due : (prepared : Prepared) (answer : Result Done Refusal) → Finds (Ok prepared) answer
+    → (prepared.reply ≡ (outcome_of answer).reply) × (prepared.moves ≡ (outcome_of answer).moves)
+found_is_due prepared (Ok done) found = found
+found_is_due prepared (Err refusal) found = absurd found
+
+-- what was found is done with room for it, or told as want of memory
+pub found_with_room : (prepared result : Prepared) (due : Decided) (kept : Kept) (before now : ℕ)
+    → Finds (Ok prepared) due.answer → now ≡ before + due.looks → puts_in result.moves ≤ room_in kept
+    → (result ≡ prepared) ⊎ ((result.reply ≡ out_of_memory) × (result.moves ≡ [])) → Does result due kept before now
+found_with_room prepared result due kept before now found looked room (inl same) =
+    let is = found_is_due prepared due.answer found in
+    inl (record { reply = ap (λ (p : Prepared). p.reply) same ∙ is.0; moves = ap (λ (p : Prepared). p.moves) same ∙ is.1; room = room; looked = looked })
+found_with_room prepared result due kept before now found looked room (inr lost) =
+    inr (record { reply = lost.0; moves = lost.1; looked = exactly before now due.looks looked })

@@ -1,20 +1,19 @@
 -- The isolation theorem's words: to each organisation the replies are those of a small machine that
 -- is given that organisation's requests alone.
-use Rattle.std.specs.Prelude.{◌≡◌, Bool, false, cond, ◌&&◌, ℕ, List, [], ◌∷◌, ◌++◌, map, filter, Option, Some, None, is_some, is_none, bytes_eq}
+use Rattle.std.specs.Prelude.{◌≡◌, Bool, false, cond, ◌&&◌, ℕ, List, [], ◌∷◌, ◌++◌, map, filter, Option, Some, None, is_some, is_none, bytes_eq, codes}
 use Rattle.std.specs.List.{list_any}
 use Rattle.std.specs.List.Sorted.{IsStrictlySortedBy}
 use Rattle.route_table.specs.Verbs.{is_get}
-use Rattle.org_machine.specs.declared.replies.Reply.{Reply}
-use Rattle.org_machine.specs.declared.requests.Request.{Request}
-use Rattle.org_machine.specs.declared.refusals.Refusal.TheVariants.{OutOfMemory}
-use Rattle.org_machine.specs.Requests.{org_of, is_of}
-use Rattle.org_machine.specs.declared.requests.Place.{Place}
-use Rattle.org_machine.specs.declared.requests.Place.TheVariants.{Of, Organisations, LeftOut, NoRoute, NoMemory}
-use Rattle.org_machine.specs.Replies.{shown, paths_behind}
-use Rattle.org_machine.specs.Refusals.{first_some, reply_to}
-use Rattle.org_machine.specs.States.{State, name_cmp}
-use Rattle.org_machine.specs.Organisations.{organisations_front}
-use Rattle.org_machine.specs.Steps.{first_refusals, step}
+use Rattle.org_core.specs.declared.replies.Reply.{Reply}
+use Rattle.org_core.specs.declared.requests.Request.{Request}
+use Rattle.org_core.specs.Requests.{org_of, is_of, is_operator}
+use Rattle.org_core.specs.declared.requests.Place.{Place}
+use Rattle.org_core.specs.declared.requests.Place.TheVariants.{Of, Organisations, LeftOut, NoRoute, NoMemory}
+use Rattle.org_core.specs.Replies.{shown, paths_behind}
+use Rattle.org_core.specs.Refusals.{out_of_memory}
+use Rattle.org_core.specs.States.{State, name_cmp}
+use Rattle.org_machine.specs.Heads.{head_refusal}
+use Rattle.org_machine.specs.Steps.{step}
 use Rattle.org_machine.specs.Marks.{Mark, served, short, down, mark_of, answer, after, IsLawful}
 
 -- a request and the reply to it
@@ -68,10 +67,10 @@ pub data Outside : Type 0 where
   says : Reply → Outside
   lists : Outside
 
--- a GET of `/organizations` that nothing refuses asks for the listing of organisations
+-- a GET of `/organizations` by the operator that nothing refuses asks for the listing of organisations
 abbrev pub is_listing_at : Place → Request → Bool
 is_listing_at (Of org route) request = false
-is_listing_at Organisations request = is_get request.verb && is_none (first_some (first_refusals Organisations request false))
+is_listing_at Organisations request = is_get request.verb && (is_operator request.caller && is_none (head_refusal request))
 is_listing_at LeftOut request = false
 is_listing_at NoRoute request = false
 is_listing_at NoMemory request = false
@@ -86,7 +85,7 @@ outside request = cond (is_listing request) lists (says (step request None).repl
 
 -- the listing of these organisations
 abbrev pub listing : List (List ℕ) → Reply
-listing names = shown (paths_behind organisations_front names)
+listing names = shown (paths_behind (codes "/organizations/") names)
 
 -- the reply lists the organisations that are there, in the order of their names
 pub record Lists (states : States) (reply : Reply) : Type 0 where
@@ -103,7 +102,7 @@ IsDue states lists reply = Lists states reply
 -- a request of no organisation is answered in these states, by its mark
 abbrev pub IsAnsweredBy : Mark → States → Request → Reply → Type 0
 IsAnsweredBy served states request reply = IsDue states (outside request) reply
-IsAnsweredBy short states request reply = reply ≡ reply_to OutOfMemory
+IsAnsweredBy short states request reply = reply ≡ out_of_memory
 IsAnsweredBy down states request reply = ⊥
 
 -- what is of no organisation is answered in these states as it is due

@@ -1,11 +1,11 @@
 -- What befell a request on its way: the mark that is read off its reply.
 use Rattle.std.specs.Prelude.{◌==◌, if◌then◌else◌, codes}
-use Rattle.org_machine.specs.declared.replies.Reply.{Reply}
-use Rattle.org_machine.specs.declared.requests.Request.{Request}
-use Rattle.org_machine.specs.declared.refusals.Refusal.TheVariants.{OutOfMemory}
-use Rattle.org_machine.specs.Replies.{with_body}
-use Rattle.org_machine.specs.Refusals.{reply_to, error_body}
-use Rattle.org_machine.specs.States.{State}
+use Rattle.org_core.specs.declared.replies.Reply.{Reply}
+use Rattle.org_core.specs.declared.requests.Request.{Request}
+use Rattle.org_core.specs.Replies.{with_body}
+use Rattle.org_core.specs.Refusals.{out_of_memory, error_body}
+use Rattle.org_core.specs.Moves.{after_moves}
+use Rattle.org_core.specs.States.{State}
 use Rattle.org_machine.specs.Steps.{step}
 
 -- served as the step says, short of memory, or with its keeper down
@@ -25,12 +25,12 @@ unavailable = with_body 503 (error_body (codes "unavailable"))
 -- the reply to a request that has this mark
 abbrev pub answer : Mark → Request → State → Reply
 answer served request state = (step request state).reply
-answer short request state = reply_to OutOfMemory
+answer short request state = out_of_memory
 answer down request state = unavailable
 
--- the state after it: only a request that is served changes it
+-- the state after it: only a request that is served changes it, by its moves
 abbrev pub after : Mark → Request → State → State
-after served request state = (step request state).state
+after served request state = after_moves (step request state).moves state
 after short request state = state
 after down request state = state
 

@@ -1,29 +1,51 @@
--- What serving one request does to the states of all organisations.
-use Rattle.std.specs.Prelude.{◌≡◌, ◌≤◌, ◌+◌, ◌⊎◌, if◌then◌else◌, ℕ, List, Option, Some, None}
-use Rattle.org_machine.specs.declared.changes.Prepared.{Prepared}
-use Rattle.org_machine.specs.declared.replies.Reply.{Reply}
-use Rattle.org_machine.specs.declared.requests.Request.{Request}
-use Rattle.org_machine.specs.Requests.{org_of, is_of}
-use Rattle.org_machine.specs.Changes.{Prepares}
-use Rattle.org_machine.specs.Outcomes.{Outcome, refused}
-use Rattle.org_machine.specs.Refusals.{reply_to}
-use Rattle.org_machine.specs.declared.refusals.Refusal.TheVariants.{OutOfMemory}
-use Rattle.org_machine.specs.States.{State, Kept}
-use Rattle.org_machine.specs.Marks.{mark_of, answer, after, IsLawful}
+-- What serving one request does: to what is kept of its organisation, and to the states of all.
+use Rattle.std.specs.Prelude.{◌≡◌, ◌≤◌, ◌+◌, ◌⊎◌, if◌then◌else◌, ℕ, List, [], Option, Some, None}
+use Rattle.org_core.specs.declared.groups.Prepared.{Prepared}
+use Rattle.org_core.specs.declared.moves.Move.{Move}
+use Rattle.org_core.specs.declared.replies.Reply.{Reply}
+use Rattle.org_core.specs.declared.requests.Request.{Request}
+use Rattle.org_core.specs.Requests.{org_of, is_of}
+use Rattle.org_core.specs.Moves.{puts_in}
+use Rattle.org_core.specs.Outcomes.{Decided, outcome_of, LooksAtMost}
+use Rattle.org_core.specs.Refusals.{out_of_memory}
+use Rattle.org_core.specs.States.{State, Kept, room_in}
+use Rattle.org_machine.specs.Steps.{looks}
+use Rattle.org_machine.specs.Marks.{mark_of, served, answer, after, IsLawful}
 use Rattle.org_machine.specs.Alone.{Exchange, Alone, States, OutsideAnswer, states_after}
 
--- no more than one object's body was looked at: each is one step
-abbrev pub LooksAtOne : ℕ → ℕ → Type 0
-LooksAtOne before now = (before ≤ now) × (now ≤ before + 1)
+-- the reply says that all is well
+abbrev pub IsGood : ℕ → Type 0
+IsGood status = (status ≡ 200) ⊎ (status ≡ 201)
+
+-- there is no move, or the reply is 200 or 201
+abbrev pub ComesWith : ℕ → List Move → Type 0
+ComesWith status moves = (moves ≡ []) ⊎ IsGood status
 
 -- the reply is the one that is due, or tells of want of memory
 abbrev pub IsOrShort : Reply → Reply → Type 0
-IsOrShort reply due = (reply ≡ due) ⊎ (reply ≡ reply_to OutOfMemory)
+IsOrShort reply due = (reply ≡ due) ⊎ (reply ≡ out_of_memory)
 
--- what was prepared is this outcome, or tells of want of memory and changes nothing; and it can be made to what is kept
-abbrev pub Does : Prepared → Outcome → State → Kept → Type 0
-Does prepared outcome state kept =
-    Prepares prepared outcome state kept ⊎ Prepares prepared (refused state OutOfMemory) state kept
+-- what was prepared is what was decided; there is room for its moves, and it took all its looks
+pub record IsDue (prepared : Prepared) (due : Decided) (kept : Kept) (before now : ℕ) : Type 0 where
+  pub reply : prepared.reply ≡ (outcome_of due.answer).reply
+  pub moves : prepared.moves ≡ (outcome_of due.answer).moves
+  pub room : puts_in prepared.moves ≤ room_in kept
+  pub looked : now ≡ before + due.looks
+
+-- what was prepared tells of want of memory and makes no move, after some of the looks
+pub record IsShort (prepared : Prepared) (due : Decided) (before now : ℕ) : Type 0 where
+  pub reply : prepared.reply ≡ out_of_memory
+  pub moves : prepared.moves ≡ []
+  pub looked : LooksAtMost due.looks before now
+
+-- one of both
+abbrev pub Does : Prepared → Decided → Kept → ℕ → ℕ → Type 0
+Does prepared due kept before now = IsDue prepared due kept before now ⊎ IsShort prepared due before now
+
+-- a request that is served looks at just the bodies that its step says, and any other at no more
+pub record Looks (reply : Reply) (request : Request) (state : State) (before now : ℕ) : Type 0 where
+  pub exact : mark_of reply ≡ served → now ≡ before + looks request state
+  pub most : LooksAtMost (looks request state) before now
 
 -- a request of an organisation is answered from its state, and its mark is lawful there
 abbrev pub OwnAnswer : States → Option (List ℕ) → Request → Reply → Type 0

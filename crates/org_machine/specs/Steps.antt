@@ -1,146 +1,99 @@
--- One request on one organisation's state: the order of refusals, once for every route, and then
--- the route's own row.
-use Rattle.std.specs.Prelude.{Bool, true, false, not, ◌&&◌, ◌||◌, ℕ, List, [], ◌∷◌, Option, Some, None, Result, Ok, Err, codes, bytes_eq, is_some, nat_le}
+-- One request on one organisation's state: what the head refuses, whether the organisation has to be there,
+-- and then the rules of the route's group, one line a group.
+use Rattle.std.specs.Prelude.{Bool, true, false, ℕ, List, [], ◌∷◌, Option, Some, None, Result, Ok, Err, codes}
 use Rattle.doc_tree.specs.Doc.{Doc, dict, no_pairs}
 use Rattle.route_table.specs.declared.verbs.Verb.{Verb}
-use Rattle.org_machine.specs.declared.requests.Place.{Place}
-use Rattle.org_machine.specs.declared.requests.Place.TheVariants.{Of, Organisations, LeftOut, NoRoute, NoMemory}
-use Rattle.org_machine.specs.declared.requests.Route.{Route}
-use Rattle.org_machine.specs.declared.requests.Route.TheVariants.{Organisation, Objects, Data, NotBuilt}
-use Rattle.org_machine.specs.declared.requests.Request.{Request}
-use Rattle.org_machine.specs.declared.requests.Body.{Body}
-use Rattle.org_machine.specs.declared.refusals.Refusal.{Refusal}
-use Rattle.org_machine.specs.declared.refusals.Refusal.TheVariants.{TooLarge, VersionNotTaken, NotImplemented, NotFound, NotAllowed, BadField}
-use Rattle.org_machine.specs.Bodies.{is_too_long, document_in}
-use Rattle.org_machine.specs.Deeds.{Deed, reads, creates, replaces, removes, deed_by}
-use Rattle.org_machine.specs.Refusals.{refuses, first_some}
-use Rattle.org_machine.specs.Replies.{shown}
-use Rattle.org_machine.specs.Routes.{is_unbuilt_at, is_no_route, lacks_method}
-use Rattle.org_machine.specs.States.{State}
-use Rattle.org_machine.specs.Outcomes.{Outcome, stays, refused}
-use Rattle.org_machine.specs.Organisations.{asks_for_organisation, organisation_refusal, organisation_row}
-use Rattle.org_machine.specs.Objects.{objects_deed, lacks_one, objects_refusal, objects_row}
-use Rattle.org_machine.specs.DataBags.{data_deed, lacks_data, data_refusal, data_row}
+use Rattle.route_table.specs.declared.verbs.Verb.TheVariants.{Get, Post, Put, Delete, Other}
+use Rattle.org_core.specs.declared.needs.Need.TheVariants.{Operator}
+use Rattle.org_core.specs.declared.needs.Permission.TheVariants as permission
+use Rattle.org_core.specs.declared.refusals.Refusal.{Refusal}
+use Rattle.org_core.specs.declared.refusals.Refusal.TheVariants.{NotImplemented, NotFound, NotAllowed, BadField}
+use Rattle.org_core.specs.declared.requests.Body.{Body}
+use Rattle.org_core.specs.declared.requests.Place.{Place}
+use Rattle.org_core.specs.declared.requests.Place.TheVariants.{Of, Organisations, LeftOut, NoRoute, NoMemory}
+use Rattle.org_core.specs.declared.requests.Request.{Request}
+use Rattle.org_core.specs.declared.routes.OrganisationRoute.{OrganisationRoute}
+use Rattle.org_core.specs.declared.routes.OrganisationRoute.TheVariants.{Create, Whole}
+use Rattle.org_core.specs.declared.routes.Route.{Route}
+use Rattle.org_core.specs.declared.routes.Route.TheVariants.{Organisation, Objects, Data, Access, Cookbooks, Policies, Search}
+use Rattle.org_core.specs.Bodies.{document_in}
+use Rattle.org_core.specs.Contexts.{Context}
+use Rattle.org_core.specs.Needs.{lacking}
+use Rattle.org_core.specs.Outcomes.{Decided, Outcome, shows, tells, refuse, unless, outcome_of}
+use Rattle.org_core.specs.States.{State}
+use Rattle.object_routes.specs.DataBags.{data_rules}
+use Rattle.object_routes.specs.Objects.{objects_rules}
+use Rattle.object_routes.specs.Organisations.{organisation_rules}
+use Rattle.org_machine.specs.Heads.{head_refusal}
+use Rattle.org_machine.specs.Order.{absence_refusal, answered_by}
 
--- the caller is the operator
-abbrev pub is_operator : Option (List ℕ) → Bool
-is_operator None = false
-is_operator (Some caller) = bytes_eq caller (codes "pivotal")
+-- a request at a route, by the rules of the route's group. What isn't built is refused by its head
+abbrev pub at_route : Context → Route → Request → Decided
+at_route context (Organisation route) request = answered_by organisation_rules context route request
+at_route context (Objects collection route) request = answered_by (objects_rules collection) context route request
+at_route context (Data route) request = answered_by data_rules context route request
+at_route context (Access route) request = refuse NotImplemented
+at_route context (Cookbooks route) request = refuse NotImplemented
+at_route context (Policies route) request = refuse NotImplemented
+at_route context (Search route) request = refuse NotImplemented
 
--- the version of the API is 0 or 1
-abbrev pub is_taken : Option ℕ → Bool
-is_taken None = false
-is_taken (Some version) = nat_le version 1
+-- what is created needn't be there
+abbrev pub asks_for_whole : OrganisationRoute → Bool
+asks_for_whole Create = false
+asks_for_whole Whole = true
 
--- what is asked isn't built: by another caller than the operator, left out, or in a row to come
-abbrev pub is_not_built : Place → Request → Bool
-is_not_built place request = not (is_operator request.caller) || is_unbuilt_at place request.verb
+-- the route asks that its organisation is there: every one but that by which it is created
+abbrev pub asks_for_organisation : Route → Bool
+asks_for_organisation (Organisation route) = asks_for_whole route
+asks_for_organisation (Objects collection route) = true
+asks_for_organisation (Data route) = true
+asks_for_organisation (Access route) = true
+asks_for_organisation (Cookbooks route) = true
+asks_for_organisation (Policies route) = true
+asks_for_organisation (Search route) = true
 
--- the route asks that its organisation is there
-abbrev pub asks_for_there : Route → Bool
-asks_for_there (Organisation route) = asks_for_organisation route
-asks_for_there (Objects collection route) = true
-asks_for_there (Data route) = true
-asks_for_there (NotBuilt path) = true
+-- a request at a route of an organisation
+abbrev pub within : Context → Route → Request → Decided
+within context route request = unless (absence_refusal (asks_for_organisation route) context) (at_route context route request)
 
--- the place asks that its organisation is there
-abbrev pub asks_for : Place → Bool
-asks_for (Of org route) = asks_for_there route
-asks_for Organisations = false
-asks_for LeftOut = false
-asks_for NoRoute = false
-asks_for NoMemory = false
-
--- what is refused before the body is looked at, in this order; `there` says that the organisation is there
-abbrev pub first_refusals : Place → Request → Bool → List (Option Refusal)
-first_refusals place request there =
-    refuses TooLarge (is_too_long request.body)
-    ∷ refuses VersionNotTaken (not (is_taken request.api))
-    ∷ refuses NotImplemented (is_not_built place request)
-    ∷ refuses NotFound (is_no_route place)
-    ∷ refuses NotAllowed (lacks_method place request.verb)
-    ∷ refuses NotFound (asks_for place && not there)
-    ∷ []
+-- whose request it is, who asks, and the state
+abbrev pub context : List ℕ → Option (List ℕ) → State → Context
+context org caller state = record { org = org; caller = caller; state = state }
 
 -- the refusal of a POST to `/organizations` whose body names no organisation
 abbrev pub unnamed : Result Doc Refusal → Refusal
 unnamed (Ok doc) = BadField (codes "name")
 unnamed (Err refusal) = refusal
 
--- then the body is looked at: what a route is asked to do, or the refusal of the body
-abbrev pub route_deed : Route → Verb → Body → Result Deed Refusal
-route_deed (Organisation route) verb body = Ok reads
-route_deed (Objects collection route) verb body = objects_deed collection route verb body
-route_deed (Data route) verb body = data_deed route verb body
-route_deed (NotBuilt path) verb body = Ok reads
-
--- what a place is asked to do
-abbrev pub deed_at : Place → Verb → Body → Result Deed Refusal
-deed_at (Of org route) verb body = route_deed route verb body
-deed_at Organisations verb body = deed_by verb (Err (unnamed (document_in body))) (Err NotAllowed)
-deed_at LeftOut verb body = Ok reads
-deed_at NoRoute verb body = Ok reads
-deed_at NoMemory verb body = Ok reads
-
--- the object that the path names isn't there
-abbrev pub lacks_object : Route → State → Bool
-lacks_object (Organisation route) state = false
-lacks_object (Objects collection route) state = lacks_one collection route state
-lacks_object (Data route) state = lacks_data route state
-lacks_object (NotBuilt path) state = false
-
--- the refusal of the route alone
-abbrev pub own_refusal : Route → Deed → State → Option Refusal
-own_refusal (Organisation route) deed state = organisation_refusal route state
-own_refusal (Objects collection route) deed state = objects_refusal collection route deed state
-own_refusal (Data route) deed state = data_refusal route deed state
-own_refusal (NotBuilt path) deed state = None
-
--- what is refused once the body was looked at, in this order
-abbrev pub last_refusals : Route → Deed → State → List (Option Refusal)
-last_refusals route deed state =
-    refuses NotFound (lacks_object route state)
-    ∷ own_refusal route deed state
-    ∷ []
-
--- what a request does that nothing refuses
-abbrev pub row : List ℕ → Route → Deed → State → Outcome
-row org (Organisation route) deed state = organisation_row org route state
-row org (Objects collection route) deed state = objects_row org collection route deed state
-row org (Data route) deed state = data_row org route deed state
-row org (NotBuilt path) deed state = refused state NotImplemented
-
--- the first of the last refusals is answered, and the state stays; where there is none, the row says what happens
-abbrev pub unless_last : List ℕ → Route → Deed → State → Option Refusal → Outcome
-unless_last org route deed state (Some refusal) = refused state refusal
-unless_last org route deed state None = row org route deed state
-
--- what comes of a deed at `/organizations`. No organisation knows of another, so the step lists none:
+-- the listing, which the operator alone may see. No organisation knows of another, so the step lists none:
 -- what the listing is answered, `Alone` says
-abbrev pub listing_row : Deed → State → Outcome
-listing_row reads state = stays state (shown (dict no_pairs))
-listing_row (creates object) state = refused state NotAllowed
-listing_row (replaces object) state = refused state NotAllowed
-listing_row removes state = refused state NotAllowed
+abbrev pub listed : Option (List ℕ) → Decided
+listed caller = unless (lacking (context [] caller None) (Operator permission.Read ∷ [])) (tells (shows (dict no_pairs)))
 
--- what comes of a deed at a place
-abbrev pub done_at : Place → Deed → State → Outcome
-done_at (Of org route) deed state = unless_last org route deed state (first_some (last_refusals route deed state))
-done_at Organisations deed state = listing_row deed state
-done_at LeftOut deed state = refused state NotImplemented
-done_at NoRoute deed state = refused state NotFound
-done_at NoMemory deed state = refused state NotImplemented
+-- a request to `/organizations` that is of no organisation
+abbrev pub at_organisations : Option (List ℕ) → Verb → Body → Decided
+at_organisations caller Get body = listed caller
+at_organisations caller Post body = refuse (unnamed (document_in body))
+at_organisations caller Put body = refuse NotAllowed
+at_organisations caller Delete body = refuse NotAllowed
+at_organisations caller Other body = refuse NotAllowed
 
--- the refusal of the body is answered, or the deed is done
-abbrev pub unless_body : Place → State → Result Deed Refusal → Outcome
-unless_body place state (Err refusal) = refused state refusal
-unless_body place state (Ok deed) = done_at place deed state
+-- a request at its place
+abbrev pub at_place : Place → Request → State → Decided
+at_place (Of org route) request state = within (context org request.caller state) route request
+at_place Organisations request state = at_organisations request.caller request.verb request.body
+at_place LeftOut request state = refuse NotImplemented
+at_place NoRoute request state = refuse NotFound
+at_place NoMemory request state = refuse NotImplemented
 
--- the first of the first refusals is answered; where there is none, the body is looked at
-abbrev pub unless_first : Place → Request → State → Option Refusal → Outcome
-unless_first place request state (Some refusal) = refused state refusal
-unless_first place request state None = unless_body place state (deed_at place request.verb request.body)
+-- how a request is decided in a state
+abbrev pub decided : Request → State → Decided
+decided request state = unless (head_refusal request) (at_place request.place request state)
 
--- one request
+-- one request: its reply, and the moves that it makes
 abbrev pub step : Request → State → Outcome
-step request state = unless_first request.place request state (first_some (first_refusals request.place request (is_some state)))
+step request state = outcome_of (decided request state).answer
+
+-- how many bodies of objects it looks at
+abbrev pub looks : Request → State → ℕ
+looks request state = (decided request state).looks

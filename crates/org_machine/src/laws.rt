@@ -1,10 +1,11 @@
 //! Laws of the definitions, which need no code.
 
-ghost use Rattle.std.specs.Prelude.{◌≡◌, ℕ, List, map};
-ghost use Rattle.org_machine.specs.declared.requests.Request.{Request};
+ghost use Rattle.std.specs.Prelude.{◌≡◌, ℕ, List, [], map};
+ghost use Rattle.org_core.specs.declared.requests.Request.{Request};
 ghost use Rattle.org_machine.specs.Alone.{Alone, Exchange, States, asked_in, own};
 ghost use Rattle.org_machine.specs.Marks.{mark_of, served};
-ghost use Rattle.org_machine.specs.States.{State};
+ghost use Rattle.org_core.specs.States.{State};
+ghost use Rattle.org_machine.specs.Serving.{IsGood};
 ghost use Rattle.org_machine.specs.Steps.{step};
 
 /// Two streams of exchanges that agree on one organisation's own requests, on what befell them and
@@ -20,7 +21,13 @@ pub fn two_worlds()
 
 /// No step is answered 500 or 503, so these two replies tell of want of memory and of a keeper that
 /// failed, and of nothing else.
-#[tactic(auto, using(crate::proofs::Served::step_is_served))]
+#[tactic(auto, using(crate::proofs::PreparedLemmas::step_is_served))]
 pub fn steps_are_served()
     ensures { (request : Request) (state : State) → mark_of (step request state).reply ≡ served }
+{}
+
+/// A request that is answered by another status than 200 and 201 makes no move.
+#[tactic(auto, using(crate::proofs::PreparedLemmas::no_moves))]
+pub fn refusals_change_nothing()
+    ensures { (request : Request) (state : State) → ¬ (IsGood (step request state).reply.status) → (step request state).moves ≡ [] }
 {}

@@ -1,32 +1,22 @@
-//! One organisation of a Chef Infra Server: its state, the requests on it and their replies, and
-//! what it means that each organisation of a site is answered as if it were alone.
+//! One organisation of a Chef Infra Server: the order in which a request is refused or done, and what it
+//! means that each organisation of a site is answered as if it were alone.
 #![tactic(auto)]
 
-mod actions;
-mod bodies;
-mod changes;
-mod collections;
+mod heads;
 mod laws;
-mod org_state;
+mod order;
 mod outside;
-mod refusals;
-mod replies;
-mod requests;
-mod routes;
 mod serving;
 mod steps;
 #[cfg(test)]
 mod tests;
 
-pub use actions::Action;
-pub use changes::{Change, Keys, Prepared};
-pub use collections::Collection;
-pub use laws::{steps_are_served, two_worlds};
-pub use org_state::OrgState;
-pub use outside::{is_listing, listing, serve_outside};
-pub use refusals::{Refusal, out_of_memory};
-pub use replies::Reply;
-pub use requests::{
-    Body, DataRoute, ObjectsRoute, OrganisationRoute, Parameter, Parameters, Place, Request, Route,
+pub use heads::head_refusal;
+pub use laws::{refusals_change_nothing, steps_are_served, two_worlds};
+pub use org_core::{
+    AccessRoute, Body, Collection, CookbookRoute, DataRoute, Move, Moves, ObjectsRoute, OrgState,
+    OrganisationRoute, Parameter, Parameters, Place, PolicyRoute, Prepared, Refusal, Reply,
+    Request, Route, SearchRoute, out_of_memory,
 };
+pub use outside::{is_listing, listing, serve_outside};
 pub use serving::{prepare, serve, settle};

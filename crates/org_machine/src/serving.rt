@@ -1,29 +1,28 @@
 //! Serving one request on one organisation: `prepare` finds the reply and takes all the memory that
-//! the change needs, and `settle` makes the change, which can't fail.
+//! the moves need, and `settle` makes the moves, which can't fail.
 
-ghost use Rattle.std.specs.Prelude.{◌≡◌, IsTrue, None, Some, is_some};
-ghost use Rattle.org_machine.specs.Requests.{org_of};
-ghost use Rattle.org_machine.specs.Refusals.{first_some, reply_to};
-ghost use Rattle.org_machine.specs.States.{state_in};
-ghost use Rattle.org_machine.specs.Steps as spec;
-ghost use Rattle.org_machine.specs.Changes.{planned, IsPossible, ComesWith};
-ghost use Rattle.org_machine.specs.Deeds.{deed_of};
+ghost use Rattle.std.specs.Prelude.{◌≡◌, ◌⊎◌, ◌≤◌, [], Some};
+ghost use Rattle.org_core.specs.Moves.{after_moves, puts_in};
+ghost use Rattle.org_core.specs.Outcomes.{Finds, Looked, does_by};
+ghost use Rattle.org_core.specs.Refusals as refusals;
+ghost use Rattle.org_core.specs.Requests.{org_of};
+ghost use Rattle.org_core.specs.States.{room_in, state_in};
 ghost use Rattle.org_machine.specs.Marks.{mark_of, answer, after, IsLawful};
-ghost use Rattle.org_machine.specs.Serving.{Does, IsOrShort, LooksAtOne};
+ghost use Rattle.org_machine.specs.Serving.{ComesWith, Does, IsGood, IsOrShort, Looks};
+ghost use Rattle.org_machine.specs.Steps as spec;
 
-use crate::actions::Action;
-use crate::changes::{Change, Prepared};
-use crate::org_state::OrgState;
-use crate::refusals::{Refusal, out_of_memory};
-use crate::replies::Reply;
-use crate::requests::{Place, Request, Route};
-use crate::steps::{first_refusal, last_refusal, route_action, row};
-use doc_tree::{NoMemory, Steps, Text};
+use crate::heads::head_refusal;
+use crate::steps::within;
+use doc_tree::{NoMemory, Steps};
+use org_core::{
+    Context, Lent, Moves, NoFinder, OrgState, Place, Prepared, Refusal, Reply, Request, Stop,
+    out_of_memory, puts_in,
+};
 use std::alloc::Global;
 use std::sync::ledger::Ledger;
 
-/// Finds the reply to a request, and takes all the memory for the change that it makes. The state
-/// stays as it was, with room made. Where memory is wanting the reply is 500, with no change. Each
+/// Finds the reply to a request, and takes all the memory for the moves that it makes. The state
+/// stays as it was, with room made. Where memory is wanting the reply is 500, with no move. Each
 /// object whose body is looked at or replaced is one step.
 pub fn prepare<L: Ledger>(
     alloc: Global,
@@ -36,111 +35,99 @@ pub fn prepare<L: Ledger>(
     ensures same { state_in state.new ≡ state_in state.old }
     ensures reply { result.reply ≡ answer (mark_of result.reply) request.now (state_in state.old) }
     ensures lawful { IsLawful (mark_of result.reply) request.now (state_in state.old) }
-    ensures change { planned result.change (state_in state.old) ≡ after (mark_of result.reply) request.now (state_in state.old) }
-    ensures made { ComesWith result.reply.status result.change }
-    ensures possible { IsPossible result.change state.new }
-    ensures steps { LooksAtOne steps.old steps.new }
+    ensures moves { after_moves result.moves (state_in state.old) ≡ after (mark_of result.reply) request.now (state_in state.old) }
+    ensures made { ComesWith result.reply.status result.moves }
+    ensures room { puts_in result.moves ≤ room_in state.new }
+    ensures looks { Looks result.reply request.now (state_in state.old) steps.old steps.new }
 {
-    match first_refusal(request, state.is_there()) {
-        Some(refusal) => refused(alloc, refusal),
-        None => prepare_place(alloc, state, request, steps),
-    }
+    prepare_step(alloc, state, request, steps)
 }
 
-// Nothing refuses the request before its body is looked at.
-fn prepare_place<L: Ledger>(
+// What the step decides, with room for it, or want of memory.
+fn prepare_step<L: Ledger>(
     alloc: Global,
     state: &mut OrgState,
     request: &Request,
     steps: &mut Steps<L>,
 ) -> Prepared
-    requires of { org_of request.now ≡ Some state.old.name }
-    requires unrefused { first_some (spec.first_refusals request.now.place request.now (is_some (state_in state.old))) ≡ None }
+    requires { org_of request.now ≡ Some state.old.name }
     ensures name { state.new.name ≡ state.old.name }
     ensures same { state_in state.new ≡ state_in state.old }
-    ensures done { Does result (spec.unless_body request.now.place (state_in state.old) (spec.deed_at request.now.place request.now.verb request.now.body)) (state_in state.old) state.new }
-    ensures steps { LooksAtOne steps.old steps.new }
+    ensures done { Does result (spec.decided request.now (state_in state.old)) state.new steps.old steps.new }
+{
+    match decided(alloc, state, request, steps) {
+        Ok(prepared) => with_room(alloc, state, prepared),
+        Err(Stop::Refused(refusal)) => stays(alloc, told(alloc, refusal)),
+        Err(Stop::NoMemory) => stays(alloc, out_of_memory()),
+    }
+}
+
+// Decides a request of the organisation whose state this is.
+fn decided<L: Ledger>(
+    alloc: Global,
+    state: &OrgState,
+    request: &Request,
+    steps: &mut Steps<L>,
+) -> Result<Prepared, Stop>
+    requires { org_of request.now ≡ Some state.now.name }
+    ensures done { Finds result (spec.decided request.now (state_in state.now)).answer }
+    ensures looked { Looked result (spec.decided request.now (state_in state.now)).looks steps.old steps.new }
+{
+    match head_refusal(request) {
+        Some(refusal) => Err(Stop::Refused(refusal)),
+        None => decided_within(alloc, state, request, steps),
+    }
+}
+
+// The head refuses nothing.
+fn decided_within<L: Ledger>(
+    alloc: Global,
+    state: &OrgState,
+    request: &Request,
+    steps: &mut Steps<L>,
+) -> Result<Prepared, Stop>
+    requires { org_of request.now ≡ Some state.now.name }
+    ensures done { Finds result (spec.at_place request.now.place request.now (state_in state.now)).answer }
+    ensures looked { Looked result (spec.at_place request.now.place request.now (state_in state.now)).looks steps.old steps.new }
 {
     match &request.place {
-        Place::Of { org, route } => prepare_route(alloc, state, org, route, request, steps),
-        Place::Organisations | Place::LeftOut | Place::NoRoute | Place::NoMemory => {
-            Prepared::stays(out_of_memory())
+        Place::Of { org, route } => {
+            let caller = &request.caller;
+            let context = Context { org, caller, state };
+            let lent = Lent { finder: &NoFinder };
+            within(alloc, context, &lent, route, request, steps)
         }
+        Place::Organisations | Place::LeftOut | Place::NoRoute | Place::NoMemory => unreachable!(),
     }
 }
 
-fn prepare_route<L: Ledger>(
-    alloc: Global,
-    state: &mut OrgState,
-    org: &Text,
-    route: &Route,
-    request: &Request,
-    steps: &mut Steps<L>,
-) -> Prepared
-    requires { IsTrue (spec.asks_for_there route.now) → IsTrue (is_some (state_in state.old)) }
+// Makes room for all the moves, or tells of want of memory.
+fn with_room(alloc: Global, state: &mut OrgState, prepared: Prepared) -> Prepared
     ensures name { state.new.name ≡ state.old.name }
     ensures same { state_in state.new ≡ state_in state.old }
-    ensures done { Does result (spec.unless_body (Place.Of org.now route.now) (state_in state.old) (spec.route_deed route.now request.now.verb request.now.body)) (state_in state.old) state.new }
-    ensures steps { LooksAtOne steps.old steps.new }
+    ensures room { puts_in result.moves ≤ room_in state.new }
+    ensures done { (result ≡ prepared) ⊎ ((result.reply ≡ refusals.out_of_memory) × (result.moves ≡ [])) }
 {
-    match route_action(alloc, route, request.verb, &request.body) {
-        Ok(action) => prepare_action(alloc, state, org, route, action, steps),
-        Err(refusal) => refused(alloc, refusal),
+    match state.reserve(puts_in(&prepared.moves)) {
+        Ok(()) => prepared,
+        Err(NoMemory) => stays(alloc, out_of_memory()),
     }
 }
 
-fn prepare_action<L: Ledger>(
-    alloc: Global,
-    state: &mut OrgState,
-    org: &Text,
-    route: &Route,
-    action: Action,
-    steps: &mut Steps<L>,
-) -> Prepared
-    requires { IsTrue (spec.asks_for_there route.now) → IsTrue (is_some (state_in state.old)) }
-    ensures name { state.new.name ≡ state.old.name }
-    ensures same { state_in state.new ≡ state_in state.old }
-    ensures done { Does result (spec.done_at (Place.Of org.now route.now) (deed_of action) (state_in state.old)) (state_in state.old) state.new }
-    ensures steps { LooksAtOne steps.old steps.new }
+// A reply that makes no move.
+fn stays(alloc: Global, reply: Reply) -> Prepared
+    ensures reply { result.reply ≡ reply }
+    ensures moves { result.moves ≡ [] }
 {
-    match last_refusal(alloc, state, route, &action) {
-        Ok(Some(refusal)) => refused(alloc, refusal),
-        Ok(None) => prepare_row(alloc, state, org, route, action, steps),
-        Err(NoMemory) => Prepared::stays(out_of_memory()),
+    Prepared {
+        reply,
+        moves: Moves::new(alloc),
     }
-}
-
-fn prepare_row<L: Ledger>(
-    alloc: Global,
-    state: &mut OrgState,
-    org: &Text,
-    route: &Route,
-    action: Action,
-    steps: &mut Steps<L>,
-) -> Prepared
-    requires { IsTrue (spec.asks_for_there route.now) → IsTrue (is_some (state_in state.old)) }
-    ensures name { state.new.name ≡ state.old.name }
-    ensures same { state_in state.new ≡ state_in state.old }
-    ensures done { Does result (spec.row org.now route.now (deed_of action) (state_in state.old)) (state_in state.old) state.new }
-    ensures steps { LooksAtOne steps.old steps.new }
-{
-    match row(alloc, state, org, route, action, steps) {
-        Ok(prepared) => prepared,
-        Err(NoMemory) => Prepared::stays(out_of_memory()),
-    }
-}
-
-// The reply that tells of a refusal, or of want of memory, with no change.
-fn refused(alloc: Global, refusal: Refusal) -> Prepared
-    ensures reply { IsOrShort result.reply (reply_to refusal) }
-    ensures change { result.change ≡ Change.Nothing }
-{
-    Prepared::stays(told(alloc, refusal))
 }
 
 /// The reply that tells of a refusal, or of want of memory.
 pub(crate) fn told(alloc: Global, refusal: Refusal) -> Reply
-    ensures { IsOrShort result (reply_to refusal) }
+    ensures { IsOrShort result (refusals.reply_to refusal) }
 {
     match refusal.reply(alloc) {
         Ok(reply) => reply,
@@ -148,20 +135,21 @@ pub(crate) fn told(alloc: Global, refusal: Refusal) -> Reply
     }
 }
 
-/// Makes the change of a request that was prepared for this state, and hands on its reply. It takes
+/// Makes the moves of a request that was prepared for this state, and hands on its reply. It takes
 /// no memory and can't fail.
 pub fn settle(state: &mut OrgState, prepared: Prepared) -> Reply
-    requires { IsPossible prepared.change state.old }
+    requires { puts_in prepared.moves ≤ room_in state.old }
     ensures reply { result ≡ prepared.reply }
     ensures name { state.new.name ≡ state.old.name }
-    ensures state { state_in state.new ≡ planned prepared.change (state_in state.old) }
+    ensures state { state_in state.new ≡ after_moves prepared.moves (state_in state.old) }
 {
-    let Prepared { reply, change } = prepared;
-    state.make(change);
+    let Prepared { reply, moves } = prepared;
+    state.make_all(moves);
     reply
 }
 
-/// Serves one request: `prepare` and `settle` in turn.
+/// Serves one request: `prepare` and `settle` in turn. A reply other than 200 and 201 leaves the state
+/// as it was.
 pub fn serve<L: Ledger>(
     alloc: Global,
     state: &mut OrgState,
@@ -173,7 +161,8 @@ pub fn serve<L: Ledger>(
     ensures reply { result ≡ answer (mark_of result) request.now (state_in state.old) }
     ensures lawful { IsLawful (mark_of result) request.now (state_in state.old) }
     ensures state { state_in state.new ≡ after (mark_of result) request.now (state_in state.old) }
-    ensures steps { LooksAtOne steps.old steps.new }
+    ensures stays { ¬ (IsGood result.status) → state_in state.new ≡ state_in state.old }
+    ensures looks { Looks result request.now (state_in state.old) steps.old steps.new }
 {
     let prepared = prepare(alloc, state, request, steps);
     settle(state, prepared)

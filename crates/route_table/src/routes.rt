@@ -1,19 +1,22 @@
-//! The router: which path of the table the segments of a target name.
-ghost use Rattle.std.specs.Prelude.{◌≡◌, IfOk, string_bytes, []};
+//! The router: which path of the table the segments of a target name, and what the table says of it.
+ghost use Rattle.std.specs.Prelude.{◌≡◌, ℕ, true, IfOk, List, string_bytes, []};
 ghost use Rattle.std.specs.List.{list_all};
 ghost use Rattle.std.specs.Option.{option_map};
 ghost use Rattle.matchit.specs.Route.{parse_route};
 ghost use Rattle.matchit.specs.Seek.{first};
 ghost use Rattle.route_table.specs.Patterns as patterns;
 ghost use Rattle.route_table.specs.Patterns.{joined};
-ghost use Rattle.route_table.specs.Routes.{FindsPaths, with_route, with_rows};
+ghost use Rattle.route_table.specs.Routes.{Agrees, FindsRows, fits, fits_all, known, with_route, with_rows};
 ghost use Rattle.route_table.specs.Table as spec;
 
+use crate::availability::Availability;
 use crate::paths::Path;
-use crate::table::{ROUTES, Row};
+use crate::table::{MarkedVerb, ROUTES, Row, marked};
+use crate::verbs::Verb;
 use doc_tree::{NoMemory, Text};
-use matchit::Router;
+use matchit::{InsertError, Router};
 use std::alloc::Global;
+use std::marker::Model;
 
 // How many bytes a joined path mostly has at most.
 const JOINED_LEN: usize = 128;
@@ -21,8 +24,43 @@ const JOINED_LEN: usize = 128;
 /// A router over the table of routes. One serves any number of requests.
 #[derive(Drop)]
 pub struct Routes {
-    router: Router<Path>,
-    ghost table: { FindsPaths router },
+    router: Router<Row>,
+    ghost table: { FindsRows router },
+}
+
+/// A path of the table that was found, known with its methods and their marks. Contracts see it as
+/// the path.
+#[derive(Drop)]
+pub struct Found {
+    path: Path,
+    methods: &'static [MarkedVerb],
+}
+
+impl Model for Found {
+    ghost use Rattle.route_table.specs.declared.paths.Path.{Path};
+    ghost use Rattle.route_table.specs.Routes.{Agrees};
+
+    ghost Value = { Path };
+
+    ghost view = { λ found. found.path };
+
+    ghost invariant = { λ found. Agrees (found.path, found.methods.now) };
+}
+
+impl Found {
+    /// The path.
+    pub fn path(&self) -> Path
+        ensures { result ≡ self.now }
+    {
+        self.path
+    }
+
+    /// What the table says of the path and a method, without a further look through the table.
+    pub fn availability(&self, verb: Verb) -> Availability
+        ensures { result ≡ spec.availability self.now verb }
+    {
+        marked(self.methods, verb)
+    }
 }
 
 impl Routes {
@@ -35,18 +73,30 @@ impl Routes {
     /// The path of the table that these segments name. `None` where no route has them, as where one
     /// of them is empty or holds a slash. Where two routes fit, the one that has a fixed segment
     /// there is it. It takes the memory of one string.
-    pub fn find(&self, alloc: Global, segments: &[Text]) -> Result<Option<Path>, NoMemory>
-        ensures { IfOk result (λ path. path ≡ spec.path_at segments.now) }
+    pub fn find(&self, alloc: Global, segments: &[Text]) -> Result<Option<Found>, NoMemory>
+        ensures { IfOk result (λ found. found ≡ spec.path_at segments.now) }
     {
         if !are_segments(segments) {
             return Ok(None);
         }
         let path = joined(alloc, segments)?;
-        Ok(self.at(path.as_str()))
+        Ok(self.found(path.as_str()))
     }
 
-    // The path that the router has for a text.
-    fn at(&self, path: &str) -> Option<Path>
+    // The path of the table that a text spells.
+    fn found(&self, path: &str) -> Option<Found>
+        requires { (segments : List (List ℕ)) × (list_all patterns.is_segment segments ≡ true) × (path.now ≡ joined segments) }
+        ensures { (segments : List (List ℕ)) → list_all patterns.is_segment segments ≡ true → path.now ≡ joined segments
+            → result ≡ spec.path_at segments }
+    {
+        match self.at(path) {
+            Some(row) => Some(found_by(row)),
+            None => None,
+        }
+    }
+
+    // The row that the router has for a text.
+    fn at(&self, path: &str) -> Option<Row>
         ensures { result ≡ option_map (λ route. route.value) (first self.now.router path.now) }
     {
         match self.router.at(path) {
@@ -56,25 +106,39 @@ impl Routes {
     }
 }
 
+// The path that a row of the table has.
+fn found_by(row: Row) -> Found
+    requires { Agrees (known row) }
+    ensures { result ≡ row.path }
+{
+    Found {
+        path: row.path,
+        methods: row.methods,
+    }
+}
+
 // A router with these rows in it.
-#[tactic(auto, unfolding(crate::specs::Routes::with_rows))]
-fn router_of(alloc: Global, rows: &[Row]) -> Result<Router<Path>, NoMemory>
+#[tactic(auto, unfolding(crate::specs::Routes::with_rows, crate::specs::Routes::fits_all))]
+fn router_of(alloc: Global, rows: &[Row]) -> Result<Router<Row>, NoMemory>
+    requires { fits_all rows.now [] ≡ true }
     ensures { IfOk result (λ router. router ≡ with_rows rows.now []) }
 {
     let mut router = Router::new(alloc);
     for row in rows {
-        add(&mut router, row.pattern, row.path)?;
+        add(&mut router, *row)?;
     }
     Ok(router)
 }
 
 // Adds a route.
-fn add(router: &mut Router<Path>, pattern: &str, path: Path) -> Result<(), NoMemory>
-    ensures { IfOk result (λ _. router.new ≡ with_route (parse_route pattern.now) path router.old) }
+fn add(router: &mut Router<Row>, row: Row) -> Result<(), NoMemory>
+    requires { fits (parse_route row.pattern.now) router.old ≡ true }
+    ensures { IfOk result (λ _. router.new ≡ with_route (parse_route row.pattern.now) row router.old) }
 {
-    match router.insert(pattern, path) {
+    match router.insert(row.pattern, row) {
         Ok(()) => Ok(()),
-        Err(_) => Err(NoMemory),
+        Err(InsertError::OutOfMemory) => Err(NoMemory),
+        Err(_) => unreachable!(),
     }
 }
 

@@ -1,4 +1,6 @@
-use crate::{Path, ROUTES, Routes, Row, Verb, has_method, is_built, is_left_out};
+//! Paths, their methods and marks, and what is left out.
+use crate::table::marked;
+use crate::{Availability, MarkedVerb, ROUTES, Routes, Row, Verb, is_left_out};
 use doc_tree::{NoMemory, Text};
 use std::alloc::Global;
 use std::test::Fail;
@@ -61,17 +63,24 @@ const PATHS: [(&str, &str); 33] = [
     ("", "None"),
 ];
 
-// A path, the methods that it has, and whether it is built.
-const METHODS: [(Path, &str); 9] = [
-    (Path::Organisations, "GET POST built"),
-    (Path::Organisation, "GET built"),
-    (Path::Nodes, "GET POST built"),
-    (Path::Node, "GET PUT DELETE built"),
-    (Path::Group, "GET PUT DELETE later"),
-    (Path::AccessList, "GET later"),
-    (Path::AccessEntry, "PUT later"),
-    (Path::File, "GET PUT later"),
-    (Path::Search, "GET POST later"),
+// A path, and the methods that it has, each with its mark.
+const METHODS: [(&str, &str); 10] = [
+    ("/organizations", "GET built, POST built, "),
+    ("/organizations/acme", "GET built, "),
+    ("/organizations/acme/nodes", "GET built, POST built, "),
+    (
+        "/organizations/acme/nodes/web",
+        "GET built, PUT built, DELETE built, ",
+    ),
+    (
+        "/organizations/acme/groups/admins",
+        "GET later, PUT later, DELETE later, ",
+    ),
+    ("/organizations/acme/data/b/_acl", "GET later, "),
+    ("/organizations/acme/policies/p/_acl/read", "PUT later, "),
+    ("/organizations/acme/files/1", "GET later, PUT later, "),
+    ("/organizations/acme/search/node", "GET later, POST later, "),
+    ("/organizations/acme/nowhere", "none"),
 ];
 
 // A path, and whether it is left out.
@@ -93,7 +102,7 @@ const LEFT_OUT: [(&str, bool); 15] = [
     ("", false),
 ];
 
-// The methods, as they stand in the table above.
+// The methods, as they stand in the table of methods.
 const VERBS: [(Verb, &str); 5] = [
     (Verb::Get, "GET "),
     (Verb::Post, "POST "),
@@ -117,7 +126,7 @@ fn segment_of(alloc: Global, piece: &str) -> Result<Text, NoMemory> {
 
 fn found(alloc: Global, routes: &Routes, path: &str) -> Result<String, NoMemory> {
     let segments = segments_of(alloc, path)?;
-    let found = routes.find(alloc, &segments)?;
+    let found = routes.find(alloc, &segments)?.map(|found| found.path());
     Ok(format!(in alloc; "{found:?}")?)
 }
 
@@ -142,33 +151,53 @@ fn unfound_patterns(alloc: Global, routes: &Routes, rows: &[Row]) -> Result<Stri
     let mut told = String::new(alloc);
     for row in rows {
         let segments = segments_of(alloc, row.pattern)?;
-        if routes.find(alloc, &segments)? != Some(row.path) {
+        let found = routes.find(alloc, &segments)?.map(|found| found.path());
+        if found != Some(row.path) {
             told.push_str(row.pattern)?;
         }
     }
     Ok(told)
 }
 
-fn methods_of(alloc: Global, verbs: &[(Verb, &str)], path: Path) -> Result<String, NoMemory> {
+fn mark(availability: Availability) -> &'static str {
+    match availability {
+        Availability::Built => "built, ",
+        Availability::Later => "later, ",
+        Availability::Lacking => "lacking, ",
+    }
+}
+
+fn methods_of(
+    alloc: Global,
+    routes: &Routes,
+    verbs: &[(Verb, &str)],
+    path: &str,
+) -> Result<String, NoMemory> {
     let mut told = String::new(alloc);
+    let segments = segments_of(alloc, path)?;
+    let Some(found) = routes.find(alloc, &segments)? else {
+        return Ok(String::from_str(alloc, "none")?);
+    };
     for (verb, name) in verbs {
-        if has_method(path, *verb) {
+        let availability = found.availability(*verb);
+        if availability != Availability::Lacking {
             told.push_str(name)?;
+            told.push_str(mark(availability))?;
         }
     }
-    told.push_str(if is_built(path) { "built" } else { "later" })?;
     Ok(told)
 }
 
 // What the paths have, where it is otherwise than it should be.
 fn unexpected_methods(
     alloc: Global,
+    routes: &Routes,
     verbs: &[(Verb, &str)],
-    cases: &[(Path, &str)],
+    cases: &[(&str, &str)],
 ) -> Result<String, NoMemory> {
     let mut told = String::new(alloc);
     for (path, expected) in cases {
-        let methods = methods_of(alloc, verbs, *path)?;
+        let methods = methods_of(alloc, routes, verbs, path)?;
         if methods.as_str() != *expected {
             told.push_str(methods.as_str())?;
         }
@@ -200,10 +229,28 @@ fn paths_are_found_by_their_segments(rt: HostRuntime) -> Result<(), Fail> {
 
 #[test]
 fn paths_have_their_methods(rt: HostRuntime) -> Result<(), Fail> {
-    let wrong = unexpected_methods(rt.alloc(), &VERBS, &METHODS)?;
+    let routes = Routes::take(rt.alloc())?;
+    let wrong = unexpected_methods(rt.alloc(), &routes, &VERBS, &METHODS)?;
     assert_eq!(rt; wrong.as_str(), "");
     assert!(rt; Verb::Get.is_get() && Verb::Post.is_post());
     Ok(())
+}
+
+#[test]
+fn each_method_has_its_own_mark(rt: HostRuntime) {
+    let methods = [
+        MarkedVerb {
+            verb: Verb::Get,
+            is_built: true,
+        },
+        MarkedVerb {
+            verb: Verb::Put,
+            is_built: false,
+        },
+    ];
+    assert_eq!(rt; marked(&methods, Verb::Get), Availability::Built);
+    assert_eq!(rt; marked(&methods, Verb::Put), Availability::Later);
+    assert_eq!(rt; marked(&methods, Verb::Delete), Availability::Lacking);
 }
 
 #[test]

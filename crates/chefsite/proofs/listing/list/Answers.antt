@@ -1,7 +1,7 @@
 -- The names of the organisations that are there, in their order.
 use Rattle.std.proofs.Common.{subst, sym, ◌∙◌}
 use Rattle.std.specs.List.Sorted.{IsStrictlySortedBy}
-use Rattle.org_machine.specs.States.{name_cmp}
+use Rattle.org_core.specs.States.{name_cmp}
 use Rattle.chefsite.proofs.ListingLemmas.{lists-all}
 use Rattle.chefsite.proofs.listing.list.Goals as goal
 

@@ -12,8 +12,8 @@ more-preserved g c =
     let n = c.min-count.result in
     let small : n ≤ c.more.missing = omega (arith, c.min-count.ensures) in
     let some : n ≤ length held = omega (arith, c.min-count.ensures, ap length c.held.ensures.bytes) in
-    let P : List ℕ → Type 0 = λ xs. IsBody c.args.size (before.0 ++ take n xs) c.and-body.result in
-    let kept = subst P c.held-in-more.ensures.bytes (c.and-body.ensures c.args.size before.0 before.2) in
+    let P : List ℕ → Type 0 = λ xs. IsBody c.args.form c.args.size (before.0 ++ take n xs) c.and-body.result in
+    let kept = subst P c.held-in-more.ensures.bytes (c.and-body.ensures c.args.form c.args.size before.0 before.2) in
     rw c.drop_front.ensures
     record {
       so_far = (

@@ -7,7 +7,7 @@ use Rattle.http_wire.proofs.bodies.read_body.Given as goal
 -- the bytes so far left the stream, and the others are missing
 abbrev pub invariant-more : goal.invariant-more
 invariant-more g l = record {
-  so_far : (done : List ℕ) × (length done + l.missing ≡ l.size) × IsBody l.size done l.body
+  so_far : (done : List ℕ) × (length done + l.missing ≡ l.size) × IsBody l.fn.form l.size done l.body
       × (stream l.fn.room (g.S.Source.left l.fn.source) ≡ prepend_known done (stream l.room (g.S.Source.left l.source)));
   place : l.room.place ≡ l.fn.room.place;
   aside : g.S.Source.aside l.source ≡ g.S.Source.aside l.fn.source;

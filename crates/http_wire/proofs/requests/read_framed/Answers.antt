@@ -5,7 +5,7 @@ use Rattle.http_routes.specs.Requests.{head_in}
 use Rattle.http_wire.specs.Bodies.{IsBody}
 use Rattle.http_wire.specs.Faults.{NoneBeginsIn}
 use Rattle.http_wire.specs.Message.{Message}
-use Rattle.http_wire.specs.Requests.{callers_in, versions_in}
+use Rattle.http_wire.specs.Requests.{callers_in, versions_in, connections_in}
 use Rattle.http_wire.specs.Room.{stream}
 use Rattle.http_wire.proofs.FaultLemmas.{OnReadFault-passed, OnNotAMessage-passed}
 use Rattle.http_wire.proofs.FrameLemmas.{framed_takes, framed_place, framed_cut, framed_none}
@@ -53,10 +53,10 @@ returns-clause-message g c =
     let body = c.in_ok-body.ensures.body in
     let m : Message = record { head = head.0; body = body.0 } in
     let at = subst (λ held. IsRequestAt held c.args.headers.now frame.spans head.0) (sym c.held.ensures.bytes) head.1 in
-    let whole = subst (λ size. IsBody size body.0 c.in_ok-body.body) (sym body.1) body.2 in (
+    let whole = subst (λ size. IsBody c.body_form-form.result size body.0 c.in_ok-body.body) (sym body.1) body.2 in (
       m,
-      c.request_from.ensures (head_in head.0.method head.0.target (callers_in head.0) (versions_in head.0)) body.0
-          (c.read_parts-head.ensures head.0 at) whole,
+      c.request_from.ensures (head_in head.0.method head.0.target (callers_in head.0) (versions_in head.0) (connections_in head.0)) body.0
+          (c.read_parts-head.ensures head.0 at) c.body_form-form.ensures whole,
       framed_takes room.place frame.size frame.spans.len room.held head.0 _ body.0 _ _ head.1.reads head.1.len head.2 body.1 body.3,
       c.in_ok-body.ensures.place ∙ framed_place room.place frame.size frame.spans.len head.0 body.0 head.1.len body.1,
     )

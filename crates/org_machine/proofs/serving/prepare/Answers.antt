@@ -1,20 +1,22 @@
 -- What was prepared is the step's, or tells of want of memory.
-use Rattle.org_machine.specs.States.{state_in}
-use Rattle.org_machine.proofs.PreparedLemmas.{Does-step, reply_due, mark_lawful}
+use Rattle.org_core.specs.States.{state_in}
+use Rattle.org_machine.proofs.PreparedLemmas.{IsPrepared, is_prepared}
 use Rattle.org_machine.proofs.serving.prepare.Goals as goal
 
-pub returns-in-None-clause-reply : goal.returns-in-None-clause-reply
-returns-in-None-clause-reply g c =
-    let request = c.args.request.now in
-    let state = state_in c.args.state.now in
-    let kept = c.prepare_place.new.state in
-    reply_due c.prepare_place.result request state kept
-    (Does-step c.prepare_place.result request state kept c.is_there.result c.first_refusal.result c.is_there.ensures c.first_refusal.ensures c.in-None.is c.prepare_place.ensures.done)
+pub returns-clause-reply : goal.returns-clause-reply
+returns-clause-reply g c = (is_prepared c.prepare_step.result c.args.request.now (state_in c.args.state.now) c.prepare_step.new.state _ _ c.prepare_step.ensures.done).reply
 
-pub returns-in-None-clause-lawful : goal.returns-in-None-clause-lawful
-returns-in-None-clause-lawful g c =
-    let request = c.args.request.now in
-    let state = state_in c.args.state.now in
-    let kept = c.prepare_place.new.state in
-    mark_lawful c.prepare_place.result request state kept
-    (Does-step c.prepare_place.result request state kept c.is_there.result c.first_refusal.result c.is_there.ensures c.first_refusal.ensures c.in-None.is c.prepare_place.ensures.done)
+pub returns-clause-lawful : goal.returns-clause-lawful
+returns-clause-lawful g c = (is_prepared c.prepare_step.result c.args.request.now (state_in c.args.state.now) c.prepare_step.new.state _ _ c.prepare_step.ensures.done).lawful
+
+pub returns-clause-moves : goal.returns-clause-moves
+returns-clause-moves g c = (is_prepared c.prepare_step.result c.args.request.now (state_in c.args.state.now) c.prepare_step.new.state _ _ c.prepare_step.ensures.done).moves
+
+pub returns-clause-made : goal.returns-clause-made
+returns-clause-made g c = (is_prepared c.prepare_step.result c.args.request.now (state_in c.args.state.now) c.prepare_step.new.state _ _ c.prepare_step.ensures.done).made
+
+pub returns-clause-room : goal.returns-clause-room
+returns-clause-room g c = (is_prepared c.prepare_step.result c.args.request.now (state_in c.args.state.now) c.prepare_step.new.state _ _ c.prepare_step.ensures.done).room
+
+pub returns-clause-looks : goal.returns-clause-looks
+returns-clause-looks g c = (is_prepared c.prepare_step.result c.args.request.now (state_in c.args.state.now) c.prepare_step.new.state _ _ c.prepare_step.ensures.done).looks

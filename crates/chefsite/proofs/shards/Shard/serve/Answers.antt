@@ -1,6 +1,6 @@
 -- The organisation that `get_mut` lent is as the request left it, and each other as before.
 use Rattle.std.proofs.Common.{rules}
-use Rattle.org_machine.specs.States.{state_in}
+use Rattle.org_core.specs.States.{state_in}
 use Rattle.chefsite.proofs.ShardLemmas.{states-written}
 use Rattle.chefsite.proofs.shards.Shard.serve.Goals as goal
 

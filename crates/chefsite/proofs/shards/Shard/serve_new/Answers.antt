@@ -1,6 +1,6 @@
 -- An organisation that is there after the request is kept, and one that isn't leaves the states as they were.
 use Rattle.std.proofs.Common.{◌≡◌, None, ◌∙◌, sym, ap, rules}
-use Rattle.org_machine.specs.States.{state_in}
+use Rattle.org_core.specs.States.{state_in}
 use Rattle.org_machine.specs.Marks.{mark_of, after}
 use Rattle.chefsite.proofs.ShardLemmas.{states-written, states-absent, on_ok}
 use Rattle.chefsite.proofs.shards.Shard.serve_new.Goals as goal

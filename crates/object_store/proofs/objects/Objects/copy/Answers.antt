@@ -1,13 +1,17 @@
-use Rattle.std.proofs.Common.{List, subst}
-use Rattle.doc_tree.specs.declared.tree.Tree.{Tree}
-use Rattle.object_store.specs.declared.key.Key.{Key}
-use Rattle.object_store.proofs.ObjectsLemmas.{Copying, Copying-more}
+use Rattle.std.proofs.Common.{ap, ◌∙◌}
+use Rattle.std.specs.Map.{lookup}
+use Rattle.std.specs.Option.{option_or}
+use Rattle.object_store.specs.Keys.{same_key}
+use Rattle.object_store.specs.Objects.{Store}
+use Rattle.object_store.specs.Places.{shelf_of, name_on}
+use Rattle.object_store.proofs.ViewLemmas.{objects_in-same}
 use Rattle.object_store.proofs.objects.Objects.copy.Goals as goal
 
--- the entry of this turn is copied
-pub loop-key-preserved : goal.loop-key-preserved
-loop-key-preserved c =
-    let here = subst (λ (left : List (Key × Tree)). Copying c.args.self.now.objects c.loop-key.kept.entries left) c.in-Some.ensures.steps c.loop-key.invariant in
-    Copying-more c.args.self.now.objects c.loop-key.kept.entries c.next.new.self c.keep.new.kept.entries
-    c.in-Some.key.now c.in_ok-copy.field-0 c.in-Some.tree.now c.in_ok-copy-2.field-0
-    here c.in_ok-copy.ensures c.in_ok-copy-2.ensures c.in_ok-keep.ensures
+-- what is found is copied, of those that came late and on the shelves
+pub returns : goal.returns
+returns c =
+    let late = c.self.inside.late in
+    let shelves = c.self.inside.shelves in
+    objects_in-same late c.in_ok-copy_late.field-0 shelves c.in_ok-copy_shelves.field-0
+    (λ k. (λ i. option_or (lookup (same_key k) (c.in_ok-copy_late.ensures i)) (c.in_ok-copy_shelves.ensures (shelf_of k) (name_on k) i)))
+    ∙ ap (λ (v : Store). v.objects) c.self.view_is

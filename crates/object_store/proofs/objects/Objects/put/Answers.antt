@@ -1,24 +1,29 @@
-use Rattle.std.proofs.Common.{◌<◌, option_map, sym, ap, subst, ◌∙◌}
+use Rattle.std.proofs.Common.{◌<◌, option_map, sym, ap, subst, ◌∙◌, arith}
 use Rattle.std.specs.FinMap as finite
 use Rattle.doc_tree.specs.Tree.{doc_of}
-use Rattle.indexmap.specs.IndexMap.{get}
-use Rattle.std.specs.Option.{option_flatten}
-use Rattle.object_store.specs.Keys.{same_key}
+use Rattle.indexmap.specs.IndexMap.{spare}
 use Rattle.object_store.specs.Objects.{Store}
-use Rattle.object_store.proofs.ObjectsLemmas.{given, of_ok, objects_in-insert, get-objects_in}
+use Rattle.object_store.proofs.ObjectsLemmas.{of_ok}
+use Rattle.object_store.proofs.MovesLemmas.{found-put}
+use Rattle.object_store.proofs.ViewLemmas.{objects_in-insert, get-objects_in}
 use Rattle.object_store.proofs.objects.Objects.put.Goals as goal
 
 -- with room the insertion succeeds, so the map that is seen has the document
 pub returns-clause-objects : goal.returns-clause-objects
 returns-clause-objects c =
-    objects_in-insert c.self.inside.kept c.insert.new.self c.args.key c.args.tree
-    (of_ok c.insert.result (c.insert.ensures.succeeds (subst (λ (v : Store). 0 < v.spare) (sym c.self.view_is) c.requires)) c.insert.ensures.updates)
+    let late = c.self.inside.late in
+    let shelves = c.self.inside.shelves in
+    let had : 0 < spare late = subst (λ (v : Store). 0 < v.spare) (sym c.self.view_is) c.requires in
+    let room : 0 < spare c.take_from-before.new.late = omega (arith, had, c.take_from-before.ensures.spare) in
+    objects_in-insert late c.insert.new.self shelves c.take_from-before.new.shelves c.args.key c.args.tree
+    (found-put late c.take_from-before.new.late c.insert.new.self shelves c.take_from-before.new.shelves c.args.key c.args.tree
+    c.take_from-before.ensures.left
+    (of_ok c.insert.result (c.insert.ensures.succeeds room) c.insert.ensures.updates).0)
     ∙ ap (λ (v : Store). finite.insert v.objects c.args.key (doc_of c.args.tree)) c.self.view_is
 
 -- and the tree that was kept is given back
 pub returns-clause-before : goal.returns-clause-before
 returns-clause-before c =
-    ap (option_map doc_of) (c.flatten.ensures ∙ ap option_flatten c.ok.ensures.value
-    ∙ given c.insert.result (get same_key c.self.inside.kept c.args.key) (c.insert.ensures.succeeds (subst (λ (v : Store). 0 < v.spare) (sym c.self.view_is) c.requires)) c.insert.ensures.old)
-    ∙ sym (get-objects_in c.self.inside.kept c.args.key)
+    ap (option_map doc_of) c.take_from-before.ensures.taken
+    ∙ sym (get-objects_in c.self.inside.late c.self.inside.shelves c.args.key)
     ∙ ap (λ (v : Store). finite.get v.objects c.args.key) c.self.view_is

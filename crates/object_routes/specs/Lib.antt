@@ -1,0 +1,5 @@
+pub mod Bodies
+pub mod Operations
+pub mod Organisations
+pub mod Objects
+pub mod DataBags

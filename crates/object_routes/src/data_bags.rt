@@ -1,0 +1,359 @@
+//! The routes of data bags and their items.
+
+ghost use Rattle.std.specs.Prelude.{◌≡◌, ◌&&◌, [], ◌∷◌, codes, Ok, IfOk};
+ghost use Rattle.doc_tree.specs.Name.{is_name};
+ghost use Rattle.object_store.specs.Items as items;
+ghost use Rattle.object_store.specs.Objects.{key};
+ghost use Rattle.org_core.specs.Contexts.{seen};
+ghost use Rattle.org_core.specs.Outcomes.{Finds};
+ghost use Rattle.org_core.specs.Refusals.{Tells, refuses};
+ghost use Rattle.org_core.specs.States.{has_object, objects_of, state_in};
+ghost use Rattle.object_routes.specs.DataBags as spec;
+ghost use Rattle.object_routes.specs.Objects as objects;
+
+use crate::bodies::{absent, object_in_body, object_named};
+use crate::objects::{
+    create_under, lacks_named, listed, name_of, named_by, need, remove, replace, show,
+};
+use crate::operations::DataOperation;
+use crate::organisations::org_uri;
+use doc_tree::{Kind, NoMemory, Steps, Text, Tree, is_name};
+use object_store::Key;
+use org_core::{
+    Body, Context, DataRoute, Finder, Group, Lent, Move, Moves, Need, Needs, OrgState, Permission,
+    Prepared, Refusal, Request, Stop, Stored, joined, shown_key, shown_paths,
+};
+use route_table::Verb;
+use std::alloc::Global;
+use std::sync::ledger::Ledger;
+
+/// The group of the routes of data bags and their items.
+#[derive(Clone, Copy, Debug)]
+pub struct DataBags;
+
+impl Group for DataBags {
+    ghost use Rattle.object_routes.specs.DataBags.{data_rules};
+
+    type Route = DataRoute;
+
+    type Operation = DataOperation;
+
+    ghost rules = { λ _. data_rules };
+
+    fn operation<F: Finder>(
+        &self,
+        alloc: Global,
+        _context: Context<'_>,
+        _lent: &Lent<'_, F>,
+        route: &DataRoute,
+        request: &Request,
+    ) -> Result<DataOperation, Stop> {
+        match route {
+            DataRoute::Bags => bags_asked(alloc, request.verb, &request.body),
+            DataRoute::Bag(bag) => bag_asked(alloc, bag, request.verb, &request.body),
+            DataRoute::Item(bag, id) => item_asked(alloc, bag, id, request.verb, &request.body),
+        }
+    }
+
+    fn lacks<F: Finder>(
+        &self,
+        _alloc: Global,
+        context: Context<'_>,
+        _lent: &Lent<'_, F>,
+        operation: &DataOperation,
+    ) -> Result<bool, NoMemory> {
+        Ok(match operation {
+            DataOperation::ListBags | DataOperation::CreateBag(_) => false,
+            DataOperation::ListItems(bag)
+            | DataOperation::CreateItem(bag, _)
+            | DataOperation::RemoveBag(bag) => lacks_named(Kind::Bag, bag, context.state),
+            DataOperation::ShowItem(bag, id)
+            | DataOperation::ReplaceItem(bag, id, _)
+            | DataOperation::RemoveItem(bag, id) => lacks_item(bag, id, context.state),
+        })
+    }
+
+    fn needs<F: Finder>(
+        &self,
+        alloc: Global,
+        _context: Context<'_>,
+        _lent: &Lent<'_, F>,
+        operation: &DataOperation,
+    ) -> Result<Needs, NoMemory> {
+        let mut needs = Needs::new(alloc);
+        needs.push(needed(alloc, operation)?)?;
+        Ok(needs)
+    }
+
+    fn own_refusal<F: Finder>(
+        &self,
+        _alloc: Global,
+        context: Context<'_>,
+        _lent: &Lent<'_, F>,
+        operation: &DataOperation,
+    ) -> Result<Option<Refusal>, NoMemory> {
+        Ok(match operation {
+            DataOperation::CreateBag(object) => bag_refusal(object, context.state),
+            DataOperation::CreateItem(bag, item) => item_refusal(bag, item, context.state),
+            DataOperation::ListBags
+            | DataOperation::ListItems(_)
+            | DataOperation::RemoveBag(_)
+            | DataOperation::ShowItem(_, _)
+            | DataOperation::ReplaceItem(_, _, _)
+            | DataOperation::RemoveItem(_, _) => None,
+        })
+    }
+
+    fn does<F: Finder, L: Ledger>(
+        &self,
+        alloc: Global,
+        context: Context<'_>,
+        _lent: &Lent<'_, F>,
+        operation: DataOperation,
+        steps: &mut Steps<L>,
+    ) -> Result<Prepared, Stop> {
+        let state = context.state;
+        Ok(match operation {
+            DataOperation::ListBags => list_bags(alloc, context)?,
+            DataOperation::CreateBag(object) => create_bag(alloc, context.org, object)?,
+            DataOperation::ListItems(bag) => list_items(alloc, context, &bag)?,
+            DataOperation::CreateItem(bag, item) => create_item(alloc, context.org, &bag, item)?,
+            DataOperation::RemoveBag(bag) => remove_bag(alloc, bag, state)?,
+            DataOperation::ShowItem(bag, id) => {
+                show(alloc, state.item(bag.as_str(), id.as_str(), steps))?
+            }
+            DataOperation::ReplaceItem(bag, id, item) => {
+                let _replaced = state.item(bag.as_str(), id.as_str(), steps);
+                replace(alloc, item_key(alloc, &bag, id.as_str())?, item)?
+            }
+            DataOperation::RemoveItem(bag, id) => {
+                let item = state.item(bag.as_str(), id.as_str(), steps);
+                remove(alloc, item, item_key(alloc, &bag, id.as_str())?)?
+            }
+        })
+    }
+}
+
+/// What is asked of all bags.
+fn bags_asked(alloc: Global, verb: Verb, body: &Body) -> Result<DataOperation, Stop>
+    ensures { Tells result (spec.bags_asked verb body.now) }
+{
+    match verb {
+        Verb::Get => Ok(DataOperation::ListBags),
+        Verb::Post => {
+            let object = object_in_body(alloc, Kind::Bag, None, body)?;
+            Ok(DataOperation::CreateBag(object))
+        }
+        Verb::Put | Verb::Delete | Verb::Other => Err(Stop::Refused(Refusal::NotAllowed)),
+    }
+}
+
+/// What is asked of a bag.
+fn bag_asked(alloc: Global, bag: &Text, verb: Verb, body: &Body) -> Result<DataOperation, Stop>
+    ensures { Tells result (spec.bag_asked bag.now verb body.now) }
+{
+    match verb {
+        Verb::Get => Ok(DataOperation::ListItems(bag.copy(alloc)?)),
+        Verb::Post => post_item(alloc, bag, body),
+        Verb::Delete => Ok(DataOperation::RemoveBag(bag.copy(alloc)?)),
+        Verb::Put | Verb::Other => Err(Stop::Refused(Refusal::NotAllowed)),
+    }
+}
+
+fn post_item(alloc: Global, bag: &Text, body: &Body) -> Result<DataOperation, Stop>
+    ensures { Tells result (spec.post_item (is_name bag.now) bag.now body.now) }
+{
+    if !is_name(bag.as_str()) {
+        return Err(Stop::Refused(absent(body)));
+    }
+    let item = object_in_body(alloc, Kind::Item, None, body)?;
+    Ok(DataOperation::CreateItem(bag.copy(alloc)?, item))
+}
+
+/// What is asked of an item.
+fn item_asked(
+    alloc: Global,
+    bag: &Text,
+    id: &Text,
+    verb: Verb,
+    body: &Body,
+) -> Result<DataOperation, Stop>
+    ensures { Tells result (spec.item_asked bag.now id.now verb body.now) }
+{
+    match verb {
+        Verb::Get => Ok(DataOperation::ShowItem(bag.copy(alloc)?, id.copy(alloc)?)),
+        Verb::Put => put_item(alloc, bag, id, body),
+        Verb::Delete => Ok(DataOperation::RemoveItem(bag.copy(alloc)?, id.copy(alloc)?)),
+        Verb::Post | Verb::Other => Err(Stop::Refused(Refusal::NotAllowed)),
+    }
+}
+
+fn put_item(alloc: Global, bag: &Text, id: &Text, body: &Body) -> Result<DataOperation, Stop>
+    ensures { Tells result (spec.put_item (is_name bag.now && is_name id.now) bag.now id.now body.now) }
+{
+    if !(is_name(bag.as_str()) && is_name(id.as_str())) {
+        return Err(Stop::Refused(absent(body)));
+    }
+    let item = object_named(alloc, Kind::Item, id, body)?;
+    Ok(DataOperation::ReplaceItem(bag.copy(alloc)?, id.copy(alloc)?, item))
+}
+
+/// Whether there is no such bag, or it has no item of this id.
+fn lacks_item(bag: &Text, id: &Text, state: &OrgState) -> bool
+    ensures { result ≡ spec.lacks_item bag.now id.now (state_in state.now) }
+{
+    let (bag, id) = (bag.as_str(), id.as_str());
+    !((is_name(bag) && is_name(id)) && (state.has(Kind::Bag, bag) && state.has_item(bag, id)))
+}
+
+/// The permission that an operation needs.
+fn needed(alloc: Global, operation: &DataOperation) -> Result<Need, NoMemory>
+    ensures { IfOk result (λ need. need ≡ spec.data_need operation.now) }
+{
+    match operation {
+        DataOperation::ListBags => container_need(alloc, Permission::Read),
+        DataOperation::CreateBag(_) => container_need(alloc, Permission::Create),
+        DataOperation::ListItems(bag) | DataOperation::ShowItem(bag, _) => {
+            bag_need(alloc, Permission::Read, bag)
+        }
+        DataOperation::CreateItem(bag, _)
+        | DataOperation::ReplaceItem(bag, _, _)
+        | DataOperation::RemoveItem(bag, _) => bag_need(alloc, Permission::Update, bag),
+        DataOperation::RemoveBag(bag) => bag_need(alloc, Permission::Delete, bag),
+    }
+}
+
+/// A permission that is looked up in the list of this bag.
+fn bag_need(alloc: Global, permission: Permission, bag: &Text) -> Result<Need, NoMemory>
+    ensures { IfOk result (λ need. need ≡ Need.Listed permission (key Kind.Bag bag.now)) }
+{
+    need(alloc, permission, Kind::Bag, bag)
+}
+
+/// A permission that is looked up in the list of the container of bags.
+fn container_need(alloc: Global, permission: Permission) -> Result<Need, NoMemory>
+    ensures { IfOk result (λ need. need ≡ Need.Listed permission (key Kind.Container (codes "data"))) }
+{
+    need(
+        alloc,
+        permission,
+        Kind::Container,
+        &Text::from_str(alloc, "data")?,
+    )
+}
+
+fn bag_refusal(object: &Stored, state: &OrgState) -> Option<Refusal>
+    ensures { result ≡ refuses Refusal.AlreadyExists (has_object (state_in state.now) Kind.Bag (objects.name_of object.now)) }
+{
+    if state.has(Kind::Bag, name_of(object)) {
+        Some(Refusal::AlreadyExists)
+    } else {
+        None
+    }
+}
+
+fn item_refusal(bag: &Text, item: &Stored, state: &OrgState) -> Option<Refusal>
+    ensures { result ≡ refuses Refusal.AlreadyExists (has_object (state_in state.now) Kind.Item (items.item_name bag.now (spec.id_of item.now))) }
+{
+    if state.has_item(bag.as_str(), id_of(item)) {
+        Some(Refusal::AlreadyExists)
+    } else {
+        None
+    }
+}
+
+fn list_bags(alloc: Global, context: Context<'_>) -> Result<Prepared, NoMemory>
+    ensures { IfOk result (λ p. Finds (Ok p) (spec.data_does (seen context.entry) DataOperation.ListBags).answer) }
+{
+    let front = bags_front(alloc, context.org)?;
+    listed(alloc, &front, Kind::Bag, context.state)
+}
+
+fn create_bag(alloc: Global, org: &Text, object: Stored) -> Result<Prepared, NoMemory>
+    ensures { IfOk result (λ p. Finds (Ok p) (objects.created_under (spec.bags_front org.now) Kind.Bag (objects.name_of object) object).answer) }
+{
+    let front = bags_front(alloc, org)?;
+    let key = Key {
+        kind: Kind::Bag,
+        name: Text::from_str(alloc, name_of(&object))?,
+    };
+    create_under(alloc, &front, key, object)
+}
+
+fn list_items(alloc: Global, context: Context<'_>, bag: &Text) -> Result<Prepared, NoMemory>
+    ensures { IfOk result (λ p. Finds (Ok p) (spec.data_does (seen context.entry) (DataOperation.ListItems bag.now)).answer) }
+{
+    let ids = context.state.ids(alloc, bag.as_str())?;
+    let bags = bags_front(alloc, context.org)?;
+    let items = item_front(alloc, bag)?;
+    let front = joined(alloc, bags.as_str(), items.as_str())?;
+    let reply = shown_paths(alloc, front.as_str(), ids.as_slice())?;
+    Ok(Prepared {
+        reply,
+        moves: Moves::new(alloc),
+    })
+}
+
+fn create_item(alloc: Global, org: &Text, bag: &Text, item: Stored) -> Result<Prepared, NoMemory>
+    ensures { IfOk result (λ p. Finds (Ok p) (objects.created_under (spec.bags_front org.now) Kind.Item (items.item_name bag.now (spec.id_of item)) item).answer) }
+{
+    let front = bags_front(alloc, org)?;
+    let key = item_key(alloc, bag, id_of(&item))?;
+    create_under(alloc, &front, key, item)
+}
+
+fn remove_bag(alloc: Global, bag: Text, state: &OrgState) -> Result<Prepared, NoMemory>
+    ensures { IfOk result (λ p. Finds (Ok p) (spec.bag_removed bag (state_in state.now)).answer) }
+{
+    let moves = bag_removal(alloc, &bag, state)?;
+    let reply = shown_key(alloc, "name", Tree::Words(bag))?;
+    Ok(Prepared { reply, moves })
+}
+
+/// Each of a bag's items goes, and then the bag.
+fn bag_removal(alloc: Global, bag: &Text, state: &OrgState) -> Result<Moves, NoMemory>
+    ensures { IfOk result (λ moves. moves ≡ spec.bag_removal bag.now (objects_of (state_in state.now))) }
+{
+    let ids = state.ids(alloc, bag.as_str())?;
+    let mut moves = Moves::new(alloc);
+    for id in ids.as_slice() {
+        moves.push(Move::TakeOut(item_key(alloc, bag, id.as_str())?))?;
+    }
+    let key = Key {
+        kind: Kind::Bag,
+        name: bag.copy(alloc)?,
+    };
+    moves.push(Move::TakeOut(key))?;
+    Ok(moves)
+}
+
+/// The front of the paths of data bags.
+fn bags_front(alloc: Global, org: &Text) -> Result<Text, NoMemory>
+    ensures { IfOk result (λ front. front ≡ spec.bags_front org.now) }
+{
+    joined(alloc, org_uri(alloc, org)?.as_str(), "/data/")
+}
+
+/// The front of the names under which a bag's items are kept.
+fn item_front(alloc: Global, bag: &Text) -> Result<Text, NoMemory>
+    ensures { IfOk result (λ front. front ≡ items.item_front bag.now) }
+{
+    joined(alloc, bag.as_str(), "/")
+}
+
+/// The key under which an item is kept.
+fn item_key(alloc: Global, bag: &Text, id: &str) -> Result<Key, NoMemory>
+    ensures { IfOk result (λ key. key ≡ record { kind = Kind.Item; name = items.item_name bag.now id.now }) }
+{
+    Ok(Key {
+        kind: Kind::Item,
+        name: joined(alloc, item_front(alloc, bag)?.as_str(), id)?,
+    })
+}
+
+/// The id of an item.
+fn id_of(item: &Stored) -> &str
+    ensures { result.now ≡ spec.id_of item.now }
+{
+    named_by("id", item.tree())
+}

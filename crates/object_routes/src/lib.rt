@@ -1,0 +1,13 @@
+//! The rules of organisations, of the plain collections of objects, and of data bags and their items.
+#![tactic(auto)]
+
+mod bodies;
+mod data_bags;
+mod objects;
+mod operations;
+mod organisations;
+
+pub use data_bags::DataBags;
+pub use objects::PlainObjects;
+pub use operations::{DataOperation, ObjectsOperation, OrganisationOperation};
+pub use organisations::{ORGANISATIONS, Organisations};

@@ -1,0 +1,5 @@
+use Rattle.object_store.proofs.ItemsLemmas.{behind_front-strip}
+use Rattle.object_store.proofs.item.behind.Goals as goal
+
+pub returns : goal.returns
+returns c = behind_front-strip c.args.front.now c.args.text.now c.strip_prefix.result c.strip_prefix.ensures.cases

@@ -1,0 +1,20 @@
+use Rattle.std.proofs.Common.{is_some, sym, ap, ◌∙◌}
+use Rattle.std.specs.FinMap as finite
+use Rattle.doc_tree.specs.declared.kind.Kind.TheVariants as kind
+use Rattle.object_store.specs.Items.{item_name}
+use Rattle.object_store.specs.Keys.{key}
+use Rattle.object_store.specs.Objects.{Store}
+use Rattle.object_store.specs.Kept.{found}
+use Rattle.object_store.proofs.ObjectsLemmas.{is_found}
+use Rattle.object_store.proofs.ViewLemmas.{get-objects_in}
+use Rattle.object_store.proofs.objects.Objects.has_item.Goals as goal
+
+-- the map that is seen has a document where a tree is found
+pub returns : goal.returns
+returns c =
+    let late = c.self.inside.late in
+    let shelves = c.self.inside.shelves in
+    c.is_some.ensures
+    ∙ is_found c.look_item.result (found late shelves (key kind.Item (item_name c.args.bag.now c.args.id.now))) c.look_item.ensures
+    ∙ ap is_some (sym (get-objects_in late shelves (key kind.Item (item_name c.args.bag.now c.args.id.now))))
+    ∙ ap (λ (v : Store). is_some (finite.get v.objects (key kind.Item (item_name c.args.bag.now c.args.id.now)))) c.self.view_is

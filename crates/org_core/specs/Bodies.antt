@@ -1,0 +1,31 @@
+-- What a body has.
+use Rattle.std.specs.Prelude.{Bool, true, false, Result, Ok, Err}
+use Rattle.doc_tree.specs.Doc.{Doc}
+use Rattle.doc_tree.specs.Tree.{doc_of}
+use Rattle.doc_tree.specs.declared.read.ReadFault.{ReadFault}
+use Rattle.doc_tree.specs.declared.read.ReadFault.TheVariants as fault
+use Rattle.org_core.specs.declared.requests.Body.{Body}
+use Rattle.org_core.specs.declared.requests.Body.TheVariants.{Empty, Doc as Read, Bad, TooLong}
+use Rattle.org_core.specs.declared.refusals.Refusal.{Refusal}
+use Rattle.org_core.specs.declared.refusals.Refusal.TheVariants.{NotJson, TooDeep, NotWhole, TooLarge}
+
+-- a body over the limit
+abbrev pub is_too_long : Body → Bool
+is_too_long Empty = false
+is_too_long (Read tree) = false
+is_too_long (Bad fault) = false
+is_too_long TooLong = true
+
+-- the refusal of bytes that aren't read as JSON
+abbrev pub unreadable : ReadFault → Refusal
+unreadable fault.NotJson = NotJson
+unreadable fault.TooDeep = TooDeep
+unreadable fault.NotWhole = NotWhole
+unreadable fault.NoMemory = NotJson
+
+-- the document of a body, or why there is none
+abbrev pub document_in : Body → Result Doc Refusal
+document_in Empty = Err NotJson
+document_in (Read tree) = Ok (doc_of tree)
+document_in (Bad fault) = Err (unreadable fault)
+document_in TooLong = Err TooLarge

@@ -1,0 +1,12 @@
+pub mod Requests
+pub mod Collections
+pub mod Replies
+pub mod Refusals
+pub mod States
+pub mod Stored
+pub mod Moves
+pub mod Bodies
+pub mod Contexts
+pub mod Needs
+pub mod Outcomes
+pub mod Rules

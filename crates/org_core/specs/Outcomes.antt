@@ -1,0 +1,89 @@
+-- What comes of a request on one organisation.
+use Rattle.std.specs.Prelude.{◌≡◌, ◌≤◌, ◌+◌, true, ℕ, List, [], ◌∷◌, Option, Some, None, Result, Ok, Err, codes}
+use Rattle.doc_tree.specs.Doc.{Doc, words}
+use Rattle.org_core.specs.declared.groups.Prepared.{Prepared}
+use Rattle.org_core.specs.declared.moves.Move.{Move}
+use Rattle.org_core.specs.declared.refusals.Refusal.{Refusal}
+use Rattle.org_core.specs.declared.refusals.Stop.{Stop}
+use Rattle.org_core.specs.declared.refusals.Stop.TheVariants.{Refused, NoMemory}
+use Rattle.org_core.specs.declared.replies.Reply.{Reply}
+use Rattle.org_core.specs.Refusals.{reply_to}
+use Rattle.org_core.specs.Replies.{with_body, one_key}
+
+-- a reply that says that all is well: 200 with a document, 201 with a document, or 200 with raw bytes
+pub data Told : Type 0 where
+  shows : Doc → Told
+  makes : Doc → Told
+  gives : List ℕ → Told
+
+-- 201 with the path of what was created
+abbrev pub creates : List ℕ → Told
+creates path = makes (one_key (codes "uri") (words path))
+
+-- the reply that tells it
+abbrev pub reply_of : Told → Reply
+reply_of (shows doc) = with_body 200 doc
+reply_of (makes doc) = with_body 201 doc
+reply_of (gives bytes) = record { status = 200; octets = true; body = bytes }
+
+-- what an operation does: what is told of it, and the moves that it makes
+pub record Done : Type 0 where
+  pub told : Told
+  pub moves : List Move
+
+-- how a request is decided: what it does or why it is refused, and how many bodies of objects were looked at
+pub record Decided : Type 0 where
+  pub answer : Result Done Refusal
+  pub looks : ℕ
+
+-- something is told, with these moves and looks
+abbrev pub does_by : Told → List Move → ℕ → Decided
+does_by told moves looks = record { answer = Ok (record { told = told; moves = moves }); looks = looks }
+
+-- something is told, and nothing was looked at
+abbrev pub tells : Told → Decided
+tells told = does_by told [] 0
+
+-- something is told of one object, which was looked at
+abbrev pub reads : Told → Decided
+reads told = does_by told [] 1
+
+-- a refusal, before anything was looked at
+abbrev pub refuse : Refusal → Decided
+refuse refusal = record { answer = Err refusal; looks = 0 }
+
+-- the refusal, if there is one, or else what was decided
+abbrev pub unless : Option Refusal → Decided → Decided
+unless (Some refusal) decided = refuse refusal
+unless None decided = decided
+
+-- the reply and the moves that come of it
+pub record Outcome : Type 0 where
+  pub reply : Reply
+  pub moves : List Move
+
+-- a refusal makes no move
+abbrev pub outcome_of : Result Done Refusal → Outcome
+outcome_of (Ok done) = record { reply = reply_of done.told; moves = done.moves }
+outcome_of (Err refusal) = record { reply = reply_to refusal; moves = [] }
+
+-- what was prepared is what is to be done
+abbrev pub Prepares : Prepared → Done → Type 0
+Prepares prepared done = (prepared.reply ≡ reply_of done.told) × (prepared.moves ≡ done.moves)
+
+-- what was found is what was decided; want of memory finds nothing
+abbrev pub Finds : Result Prepared Stop → Result Done Refusal → Type 0
+Finds (Ok prepared) (Ok done) = Prepares prepared done
+Finds (Ok prepared) (Err refusal) = ⊥
+Finds (Err (Refused refusal)) due = due ≡ Err refusal
+Finds (Err NoMemory) due = Unit {0}
+
+-- at most so many bodies were looked at: each is one step
+abbrev pub LooksAtMost : ℕ → ℕ → ℕ → Type 0
+LooksAtMost looks before now = (before ≤ now) × (now ≤ before + looks)
+
+-- just so many bodies were looked at, and at most so many where memory was wanting
+abbrev pub Looked : {T : Type 0} → Result T Stop → ℕ → ℕ → ℕ → Type 0
+Looked (Ok value) looks before now = now ≡ before + looks
+Looked (Err (Refused refusal)) looks before now = now ≡ before + looks
+Looked (Err NoMemory) looks before now = LooksAtMost looks before now

@@ -1,0 +1,45 @@
+//! What a group of routes is lent: whose request it is, who asks, and the organisation's state.
+
+ghost use Rattle.std.specs.Prelude.{◌≡◌};
+ghost use Rattle.org_core.specs.Requests as requests;
+
+use crate::org_state::OrgState;
+use doc_tree::Text;
+
+/// The organisation's name, the caller, and the organisation's state: every part of a rule sees them.
+#[derive(Clone, Copy)]
+pub struct Context<'c> {
+    /// The organisation's name.
+    pub org: &'c Text,
+    /// The caller's name, if the request says one.
+    pub caller: &'c Option<Text>,
+    /// The organisation's state.
+    pub state: &'c OrgState,
+}
+
+/// What finds the objects that a query matches. No operation searches yet, so it has no calls.
+pub trait Finder {}
+
+/// The finder of a site that can't search.
+#[derive(Clone, Copy, Debug)]
+pub struct NoFinder;
+
+impl Finder for NoFinder {}
+
+/// All that an operation is lent beside its context: the finder today, and an organisation's files and
+/// the hint of a solution as they are built. No group names what it doesn't use.
+#[derive(Drop)]
+pub struct Lent<'l, F: Finder> {
+    /// What finds objects.
+    pub finder: &'l F,
+}
+
+/// Whether the caller is the operator.
+pub fn is_operator(caller: &Option<Text>) -> bool
+    ensures { result ≡ requests.is_operator caller.now }
+{
+    match caller {
+        None => false,
+        Some(caller) => caller.as_str() == "pivotal",
+    }
+}

@@ -1,0 +1,158 @@
+//! The refusals of a request: the status and the text that each is answered with.
+
+ghost use Rattle.std.specs.Prelude.{◌≡◌, IfOk, false};
+ghost use Rattle.org_core.specs.Refusals as spec;
+
+use crate::needs::Permission;
+use crate::replies::{Reply, with_key};
+use doc_tree::{Bytes, NoMemory, Text, Tree, Trees};
+use http::StatusCode;
+use std::alloc::Global;
+
+/// Why a request is refused.
+#[derive(Drop)]
+pub enum Refusal {
+    /// 413: the body has more than 4,194,304 bytes.
+    TooLarge,
+    /// 406: the version of the API is none that is taken.
+    VersionNotTaken,
+    /// 501: the caller or the route is none that is built.
+    NotImplemented,
+    /// 404: no route has the path, or the organisation or the object that it names isn't there.
+    NotFound,
+    /// 405: the route hasn't the method, or the object stays as it is.
+    NotAllowed,
+    /// 401: the caller is no client or user of the organisation, and isn't the operator.
+    UnknownCaller,
+    /// 400: the body isn't JSON.
+    NotJson,
+    /// 400: the body nests more than 100 deep.
+    TooDeep,
+    /// 400: a number in the body isn't whole.
+    NotWhole,
+    /// 400: this field of the body hasn't its form.
+    BadField(Text),
+    /// 403: the caller lacks this permission, the first of those that are needed.
+    Forbidden(Permission),
+    /// 409: what the request would create is there.
+    AlreadyExists,
+}
+
+/// Why a request isn't done: it is refused, or no memory was left for it.
+#[derive(Drop)]
+pub enum Stop {
+    /// It is refused.
+    Refused(Refusal),
+    /// No memory was left for it. It changes nothing.
+    NoMemory,
+}
+
+impl From<NoMemory> for Stop {
+    ghost use Rattle.std.specs.Prelude.{◌≡◌};
+    ghost use Rattle.org_core.specs.declared.refusals.Stop.TheVariants.{NoMemory as Short};
+
+    ghost from_gives = { λ _ e. e ≡ Short };
+
+    fn from(_cause: NoMemory) -> Stop {
+        Stop::NoMemory
+    }
+}
+
+impl Refusal {
+    /// The reply that tells of the refusal. Only that of a bad field takes memory.
+    #[tactic(auto, unfolding(json::specs::Print::escape_byte))]
+    pub fn reply(self, alloc: Global) -> Result<Reply, NoMemory>
+        ensures { IfOk result (λ reply. reply ≡ spec.reply_to self) }
+    {
+        match self {
+            Refusal::TooLarge => Ok(refused(
+                StatusCode::PAYLOAD_TOO_LARGE,
+                b"{\"error\":[\"body is too large\"]}",
+            )),
+            Refusal::VersionNotTaken => Ok(refused(
+                StatusCode::NOT_ACCEPTABLE,
+                b"{\"error\":[\"api version is not taken\"]}",
+            )),
+            Refusal::NotImplemented => Ok(refused(
+                StatusCode::NOT_IMPLEMENTED,
+                b"{\"error\":[\"not implemented\"]}",
+            )),
+            Refusal::NotFound => Ok(refused(StatusCode::NOT_FOUND, b"{\"error\":[\"not found\"]}")),
+            Refusal::NotAllowed => Ok(refused(
+                StatusCode::METHOD_NOT_ALLOWED,
+                b"{\"error\":[\"not allowed\"]}",
+            )),
+            Refusal::UnknownCaller => Ok(refused(
+                StatusCode::UNAUTHORIZED,
+                b"{\"error\":[\"caller is not known\"]}",
+            )),
+            Refusal::NotJson => Ok(bad_request(b"{\"error\":[\"body is not JSON\"]}")),
+            Refusal::TooDeep => Ok(bad_request(b"{\"error\":[\"body is too deep\"]}")),
+            Refusal::NotWhole => Ok(bad_request(b"{\"error\":[\"number is not whole\"]}")),
+            Refusal::BadField(field) => bad_field(alloc, &field),
+            Refusal::AlreadyExists => Ok(refused(
+                StatusCode::CONFLICT,
+                b"{\"error\":[\"already exists\"]}",
+            )),
+            Refusal::Forbidden(permission) => Ok(forbidden(permission)),
+        }
+    }
+}
+
+/// The reply to want of memory. It is constant and takes no memory.
+#[tactic(auto, unfolding(json::specs::Print::escape_byte))]
+pub fn out_of_memory() -> Reply
+    ensures { result ≡ spec.out_of_memory }
+{
+    refused(
+        StatusCode::INTERNAL_SERVER_ERROR,
+        b"{\"error\":[\"out of memory\"]}",
+    )
+}
+
+#[tactic(auto, unfolding(json::specs::Print::escape_byte))]
+fn forbidden(permission: Permission) -> Reply
+    ensures { result ≡ spec.reply_to (Refusal.Forbidden permission) }
+{
+    refused(
+        StatusCode::FORBIDDEN,
+        match permission {
+            Permission::Create => b"{\"error\":[\"missing create permission\"]}",
+            Permission::Read => b"{\"error\":[\"missing read permission\"]}",
+            Permission::Update => b"{\"error\":[\"missing update permission\"]}",
+            Permission::Delete => b"{\"error\":[\"missing delete permission\"]}",
+            Permission::Grant => b"{\"error\":[\"missing grant permission\"]}",
+        },
+    )
+}
+
+fn bad_field(alloc: Global, field: &Text) -> Result<Reply, NoMemory>
+    ensures { IfOk result (λ reply. reply ≡ spec.reply_to (Refusal.BadField field.now)) }
+{
+    let mut words = String::from_str(alloc, "bad field ")?;
+    words.push_str(field.as_str())?;
+    let mut messages = Trees::new(alloc);
+    messages.push(Tree::Words(Text::of(words)))?;
+    with_key(
+        alloc,
+        StatusCode::BAD_REQUEST,
+        "error",
+        Tree::List(messages),
+    )
+}
+
+fn bad_request(body: &'static [u8]) -> Reply
+    ensures { result ≡ record { status = 400; octets = false; body = body.now } }
+{
+    refused(StatusCode::BAD_REQUEST, body)
+}
+
+fn refused(status: StatusCode, body: &'static [u8]) -> Reply
+    ensures { result ≡ record { status = status; octets = false; body = body.now } }
+{
+    Reply {
+        status: status.as_u16(),
+        octets: false,
+        body: Bytes::constant(body),
+    }
+}

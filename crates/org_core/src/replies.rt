@@ -1,0 +1,90 @@
+//! A reply, before it is written as a message.
+
+ghost use Rattle.std.specs.Prelude.{◌≡◌, ◌++◌, IfOk};
+ghost use Rattle.doc_tree.specs.Tree.{doc_of};
+ghost use Rattle.doc_tree.specs.Valid.{InOrder};
+ghost use Rattle.org_core.specs.Replies as spec;
+
+use doc_tree::{Bytes, Fields, NoMemory, Text, Tree, json_text};
+use http::StatusCode;
+use std::alloc::Global;
+
+/// A reply: its status (RFC 9110, section 15), whether its body is raw bytes and not JSON, and its
+/// body.
+#[derive(Drop)]
+pub struct Reply {
+    /// The status code.
+    pub status: u16,
+    /// Whether the body is `application/octet-stream`. Any other is `application/json`.
+    pub octets: bool,
+    /// The body.
+    pub body: Bytes,
+}
+
+/// 200 with what was asked for.
+pub fn shown(alloc: Global, tree: &Tree) -> Result<Reply, NoMemory>
+    ensures { IfOk result (λ reply. reply ≡ spec.shown (doc_of tree.now)) }
+{
+    with_body(alloc, StatusCode::OK, tree)
+}
+
+/// 200 with a dict of one key.
+pub fn shown_key(alloc: Global, key: &str, tree: Tree) -> Result<Reply, NoMemory>
+    ensures { IfOk result (λ reply. reply ≡ spec.shown (spec.one_key key.now (doc_of tree))) }
+{
+    with_key(alloc, StatusCode::OK, key, tree)
+}
+
+/// 200 with each name and its path, which is the name behind this front.
+pub fn shown_paths(alloc: Global, front: &str, names: &[Text]) -> Result<Reply, NoMemory>
+    requires { InOrder names.now }
+    ensures { IfOk result (λ reply. reply ≡ spec.shown (spec.paths_behind front.now names.now)) }
+{
+    let mut fields = Fields::new(alloc);
+    for name in names {
+        let path = joined(alloc, front, name.as_str())?;
+        fields.push(name.copy(alloc)?, Tree::Words(path))?;
+    }
+    shown(alloc, &Tree::Dict(fields))
+}
+
+/// 201 with the path of what was created.
+pub fn created(alloc: Global, uri: Text) -> Result<Reply, NoMemory>
+    ensures { IfOk result (λ reply. reply ≡ spec.created uri) }
+{
+    with_key(alloc, StatusCode::CREATED, "uri", Tree::Words(uri))
+}
+
+/// A text and another behind it.
+pub fn joined(alloc: Global, front: &str, rest: &str) -> Result<Text, NoMemory>
+    ensures { IfOk result (λ text. text ≡ front.now ++ rest.now) }
+{
+    let mut text = String::with_capacity(alloc, front.len() + rest.len())?;
+    text.push_str(front)?;
+    text.push_str(rest)?;
+    Ok(Text::of(text))
+}
+
+/// A reply with a dict of one key as its body.
+pub(crate) fn with_key(
+    alloc: Global,
+    status: StatusCode,
+    key: &str,
+    tree: Tree,
+) -> Result<Reply, NoMemory>
+    ensures { IfOk result (λ reply. reply ≡ spec.with_body status (spec.one_key key.now (doc_of tree))) }
+{
+    let mut fields = Fields::new(alloc);
+    fields.put(Text::from_str(alloc, key)?, tree)?;
+    with_body(alloc, status, &Tree::Dict(fields))
+}
+
+fn with_body(alloc: Global, status: StatusCode, tree: &Tree) -> Result<Reply, NoMemory>
+    ensures { IfOk result (λ reply. reply ≡ spec.with_body status (doc_of tree.now)) }
+{
+    Ok(Reply {
+        status: status.as_u16(),
+        octets: false,
+        body: json_text(alloc, tree)?,
+    })
+}

@@ -1,0 +1,89 @@
+//! A request, after it was read from a message and before anyone looked at a state.
+
+ghost use Rattle.std.specs.Prelude.{◌≡◌};
+ghost use Rattle.org_core.specs.Bodies as bodies;
+
+use crate::routes::Route;
+use doc_tree::{Listed, ReadFault, Text, Tree};
+use route_table::{Availability, Verb};
+
+/// Where a request goes.
+#[derive(Drop)]
+pub enum Place {
+    /// A route of the organisation of this name.
+    Of {
+        /// The organisation's name as the request spells it. It may have no organisation's form:
+        /// then no such organisation is there.
+        org: Text,
+        /// The route below it.
+        route: Route,
+    },
+    /// `/organizations`, but for a POST whose body names a new organisation.
+    Organisations,
+    /// A path that the product leaves out.
+    LeftOut,
+    /// A path that the table of routes hasn't.
+    NoRoute,
+    /// The parts of the request found no memory. Such a request is of no organisation.
+    NoMemory,
+}
+
+/// A parameter of a request's query, form-decoded.
+#[derive(Drop)]
+pub struct Parameter {
+    /// Its name.
+    pub name: Text,
+    /// Its value; empty where there is none.
+    pub value: Text,
+}
+
+/// Parameters, in the order of the query.
+pub type Parameters = Listed<Parameter>;
+
+/// The body of a request.
+#[derive(Drop)]
+pub enum Body {
+    /// No body is looked at: there is none to look at with this method, or the head alone refuses the
+    /// request.
+    Empty,
+    /// A tree that was read from JSON.
+    Doc(Tree),
+    /// Bytes that no tree could be read from, with the first fault. It is never `NoMemory`.
+    Bad(ReadFault),
+    /// More than 4,194,304 bytes, which were dropped.
+    TooLong,
+}
+
+impl Body {
+    /// Whether there were more bytes than a body may have.
+    pub fn is_too_long(&self) -> bool
+        ensures { result ≡ bodies.is_too_long self.now }
+    {
+        matches!(self, Body::TooLong)
+    }
+}
+
+/// One request.
+#[derive(Drop)]
+pub struct Request {
+    /// The caller's name, by the one header `X-Ops-UserId`. `None` where the header is missing,
+    /// empty, not UTF-8 or there twice.
+    pub caller: Option<Text>,
+    /// The version of the API, by the header `X-Ops-Server-API-Version`: 0, 1 or 2, and 0 where
+    /// there is no such header. `None` where it has another value or is there twice.
+    pub api: Option<u8>,
+    /// What is asked.
+    pub verb: Verb,
+    /// Of what it is asked.
+    pub place: Place,
+    /// What the table of routes says of the path with this method. Of a path that the table hasn't
+    /// it is `Lacking`, and nothing looks at it.
+    pub availability: Availability,
+    /// The parameters of the query. One that stands twice counts by its first.
+    pub asked: Parameters,
+    /// What comes with it.
+    pub body: Body,
+    /// Whether the message says that its connection is to be closed: a `Connection` header has the
+    /// option `close` (RFC 9112, section 9.6). It changes no reply.
+    pub close: bool,
+}

@@ -1,0 +1,78 @@
+//! What the head of a request alone refuses.
+
+ghost use Rattle.std.specs.Prelude.{◌≡◌};
+ghost use Rattle.org_machine.specs.Heads as spec;
+
+use org_core::{Place, Refusal, Request, is_operator};
+use route_table::Availability;
+
+/// The first refusal of a request that its head alone gives, and a body that is too long: 413, 406, 501,
+/// 404 where no route has the path, and 405, in this order. Nothing else of the body is looked at, and
+/// no state. It takes no memory.
+pub fn head_refusal(request: &Request) -> Option<Refusal>
+    ensures { result ≡ spec.head_refusal request.now }
+{
+    if request.body.is_too_long() {
+        return Some(Refusal::TooLarge);
+    }
+    if !is_taken(request.api) {
+        return Some(Refusal::VersionNotTaken);
+    }
+    if is_not_built(request) {
+        return Some(Refusal::NotImplemented);
+    }
+    if is_no_route(&request.place) {
+        return Some(Refusal::NotFound);
+    }
+    if lacks_method(&request.place, request.availability) {
+        return Some(Refusal::NotAllowed);
+    }
+    None
+}
+
+/// Whether the version of the API is 0 or 1.
+fn is_taken(api: Option<u8>) -> bool
+    ensures { result ≡ spec.is_taken api }
+{
+    match api {
+        None => false,
+        Some(version) => version <= 1,
+    }
+}
+
+/// Whether what is asked isn't built: by another caller than the operator, left out, or to come.
+fn is_not_built(request: &Request) -> bool
+    ensures { result ≡ spec.is_not_built request.now }
+{
+    !is_operator(&request.caller) || is_unbuilt(&request.place, request.availability)
+}
+
+fn is_unbuilt(place: &Place, availability: Availability) -> bool
+    ensures { result ≡ spec.is_unbuilt place.now availability }
+{
+    match place {
+        Place::Of { org: _, route: _ } | Place::Organisations => {
+            matches!(availability, Availability::Later)
+        }
+        Place::LeftOut => true,
+        Place::NoRoute | Place::NoMemory => false,
+    }
+}
+
+fn is_no_route(place: &Place) -> bool
+    ensures { result ≡ spec.is_no_route place.now }
+{
+    matches!(place, Place::NoRoute)
+}
+
+/// Whether the table has the path, and not the method.
+fn lacks_method(place: &Place, availability: Availability) -> bool
+    ensures { result ≡ spec.lacks_method place.now availability }
+{
+    match place {
+        Place::Of { org: _, route: _ } | Place::Organisations => {
+            matches!(availability, Availability::Lacking)
+        }
+        Place::LeftOut | Place::NoRoute | Place::NoMemory => false,
+    }
+}
