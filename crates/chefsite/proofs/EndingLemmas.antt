@@ -17,6 +17,7 @@ use Rattle.chefsite.specs.declared.statuses.Status.TheVariants as status
 use Rattle.chefsite.specs.Endings.{Says, HasStatusCause, TellsRest, IsComplete, status_of}
 use Rattle.outside_core.proofs.SinkLemmas.{append_known-append}
 use Rattle.http_wire.proofs.StreamLemmas.{BeginsNone-nil}
+use Rattle.chefsite.proofs.AloneLemmas.{answered}
 use Rattle.chefsite.proofs.TurnLemmas.{cut_emptying}
 
 -- two fronts of a stream are one
@@ -55,7 +56,7 @@ all_written held gained now texts waiting p out =
 
 answers_so_far : (first now : Option (List ℕ)) (place : ℕ) (states : _) (held gained : Option (List ℕ)) (waiting : List ℕ)
     → (s : SoFar first now place states held gained waiting) → Answers s.messages s.exchanges
-answers_so_far first now place states held gained waiting s = record { requests = s.requests; alone = s.progress.alone }
+answers_so_far first now place states held gained waiting s = answered s.messages s.exchanges s.requests s.progress.alone
 
 -- a stream of which nothing is left is split by the messages that were taken
 closed_split : (first now : Option (List ℕ)) (ms : List Message) → TakesAll 0 first now ms → IsAtEnd now → IfSome first (λ bytes. Splits 0 bytes ms [])
@@ -195,3 +196,4 @@ is_complete status.WriteFault left rest held now rb rn wb wn command says cause 
 is_complete status.NoMemory left rest held now rb rn wb wn command says cause bytes messages known split no_read no_write = inr refl
 is_complete (status.NotAMessage place) left rest held now rb rn wb wn command says cause bytes messages known split no_read no_write =
     absurd (((tells_rest (status.NotAMessage place) left rest held now says bytes messages [] known split).1 place refl).0 refl)
+is_complete status.BadFile left rest held now rb rn wb wn command says cause bytes messages known split no_read no_write = absurd says

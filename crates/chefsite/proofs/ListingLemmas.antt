@@ -14,7 +14,7 @@ use Rattle.org_core.specs.declared.requests.Request.{Request}
 use Rattle.org_core.specs.Refusals.{out_of_memory}
 use Rattle.org_machine.specs.Marks.{mark_of}
 use Rattle.org_machine.specs.Steps.{step}
-use Rattle.org_machine.specs.Alone.{States, says, lists, is_listing, Lists, listing, IsDue, IsAnsweredBy}
+use Rattle.org_machine.specs.Alone.{States, steps, lists, is_listing, Lists, listing, IsDue, IsAnsweredBy}
 use Rattle.chefsite.specs.declared.shards.Shard.{Shard}
 use Rattle.chefsite.specs.Organisations.{state_at}
 use Rattle.chefsite.specs.Shards.{states_in, shard_of, site_states}
@@ -131,6 +131,6 @@ pub listing-due : (states : States) (request : Request) (reply : Reply) → is_l
     → Lists states reply ⊎ (reply ≡ out_of_memory) → IsAnsweredBy (mark_of reply) states request reply
 listing-due states request reply asked (inl all) =
     subst (λ mark. IsAnsweredBy mark states request reply) (sym (ap mark_of all.told))
-    (subst (λ due. IsDue states due reply) (sym (ap (λ b. cond b lists (says (step request None).reply)) asked)) all)
+    (subst (λ due. IsDue states due reply) (sym (ap (λ b. cond b lists (steps request)) asked)) all)
 listing-due states request reply asked (inr short_of) =
     subst (λ mark. IsAnsweredBy mark states request reply) (sym (ap mark_of short_of)) short_of

@@ -1,7 +1,7 @@
 -- What a change of one organisation does to the states that a shard keeps.
-use Rattle.std.proofs.Common.{◌≡◌, ◌≢◌, ℕ, zero, suc, ◌<◌, inl, inr, ◌⊎◌, Bool, true, false, cond, List, [], ◌∷◌, length, set, get_or, Option, Some, None, Result, Ok, Err, IsOk, OnOk, sym, ap, refl, ◌∙◌, arith, length-set}
+use Rattle.std.proofs.Common.{◌≡◌, ◌≢◌, ℕ, zero, suc, ◌<◌, inl, inr, ◌⊎◌, Bool, true, false, cond, List, [], ◌∷◌, length, set, get_or, Option, Some, None, Result, Ok, Err, IsOk, OnOk, sym, ap, subst, refl, ◌∙◌, arith, length-set}
 use Rattle.std.specs.List.{slice_get}
-use Rattle.std.specs.Option.{option_map_or}
+use Rattle.std.specs.Option.{option_map_or, ForSome}
 use Rattle.std.proofs.lemmas.Bool.{cases_eq, false_from_ne_true}
 use Rattle.std.proofs.lemmas.Option.{slice_get_read}
 use Rattle.chefsite.specs.declared.shards.Shard.{Shard}
@@ -11,8 +11,11 @@ use Rattle.std.specs.Cmp.Lexicographic.{bytes_decides, nat_list_eq_equiv}
 use Rattle.org_core.specs.declared.replies.Reply.{Reply}
 use Rattle.org_core.specs.declared.requests.Request.{Request}
 use Rattle.org_core.specs.Requests.{org_of, has_name}
-use Rattle.org_core.specs.States.{State, Kept, state_in}
-use Rattle.org_machine.specs.Marks.{mark_of, after}
+use Rattle.org_core.specs.declared.moves.Move.{Move}
+use Rattle.org_core.specs.Moves.{within, after_moves}
+use Rattle.org_core.specs.States.{Organisation, State, Kept, state_in}
+use Rattle.org_machine.specs.Steps.{step}
+use Rattle.org_machine.specs.Marks.{Mark, served, short, down, mark_of, after}
 use Rattle.org_machine.specs.Serving.{state_then}
 use Rattle.chefsite.specs.Organisations.{KeptOrganisations, kept_at, state_at}
 
@@ -43,6 +46,59 @@ states-written before now org new state request reply put had is_org step name =
     written_under (bytes_eq org name) (kept_at before name) (kept_at now name) new state request reply (put name)
     (λ same. ap (λ n. state_at (kept_at before n)) (sym ((bytes_decides org name).0 same)) ∙ had) step
     ∙ sym (state_then-known org name request reply (state_at (kept_at before name)) is_org)
+
+-- no move makes an organisation go
+moves_keep : (moves : List Move) (organisation : Organisation) → after_moves moves (Some organisation) ≢ None
+moves_keep [] organisation gone = absurd (cc)
+moves_keep (move ∷ rest) organisation gone = moves_keep rest (within move organisation) gone
+
+-- so one that is there before a request is there after it
+pub stays_there : (mark : Mark) (request : Request) (state : State) → state ≢ None → after mark request state ≢ None
+stays_there served request None there gone = there refl
+stays_there served request (Some organisation) there gone = moves_keep (step request (Some organisation)).moves organisation gone
+stays_there short request state there gone = there gone
+stays_there down request state there gone = there gone
+
+-- one entry alike is the other
+some_is : {X : Type 0} (x y : X) → Some x ≡ Some y → x ≡ y
+some_is x y same = cc
+
+-- under one name: what was written is there, and any other as before
+there_under : (own : Bool) (before now : Option Kept) (new : Kept)
+    → now ≡ cond own (Some new) before
+    → state_in new ≢ None
+    → ForSome before (λ kept. state_in kept ≢ None)
+    → ForSome now (λ kept. state_in kept ≢ None)
+there_under true before now new put there were kept is = subst (λ k. state_in k ≢ None) (some_is new kept (sym put ∙ is)) there
+there_under false before now new put there were kept is = were kept (sym put ∙ is)
+
+-- all that is kept is there, once one more that is there was written
+pub there-written : (before now : KeptOrganisations) (org : List ℕ) (new : Kept)
+    → ((name : List ℕ) → kept_at now name ≡ cond (bytes_eq org name) (Some new) (kept_at before name))
+    → state_in new ≢ None
+    → ((name : List ℕ) → ForSome (kept_at before name) (λ kept. state_in kept ≢ None))
+    → (name : List ℕ) → ForSome (kept_at now name) (λ kept. state_in kept ≢ None)
+there-written before now org new put there were name =
+    there_under (bytes_eq org name) (kept_at before name) (kept_at now name) new (put name) there (were name)
+
+-- under one name: what was written has it, and any other as before
+named_under : (own : Bool) (before now : Option Kept) (new : Kept) (name : List ℕ)
+    → now ≡ cond own (Some new) before
+    → (own ≡ true → new.name ≡ name)
+    → ForSome before (λ kept. kept.name ≡ name)
+    → ForSome now (λ kept. kept.name ≡ name)
+named_under true before now new name put owns were kept is = subst (λ k. k.name ≡ name) (some_is new kept (sym put ∙ is)) (owns refl)
+named_under false before now new name put owns were kept is = were kept (sym put ∙ is)
+
+-- all that is kept has the name that it is kept under, once one more was written under its own
+pub named-written : (before now : KeptOrganisations) (org : List ℕ) (new : Kept)
+    → ((name : List ℕ) → kept_at now name ≡ cond (bytes_eq org name) (Some new) (kept_at before name))
+    → new.name ≡ org
+    → ((name : List ℕ) → ForSome (kept_at before name) (λ kept. kept.name ≡ name))
+    → (name : List ℕ) → ForSome (kept_at now name) (λ kept. kept.name ≡ name)
+named-written before now org new put is_named were name =
+    named_under (bytes_eq org name) (kept_at before name) (kept_at now name) new name (put name)
+    (λ same. is_named ∙ (bytes_decides org name).0 same) (were name)
 
 -- what a call that succeeds promises
 pub on_ok : {T E P : Type 0} (result : Result T E) → IsOk result → OnOk result P → P

@@ -20,6 +20,7 @@ use Rattle.chefsite.specs.declared.answering.End.{End}
 use Rattle.chefsite.specs.declared.answering.End.TheVariants.{Closed, ReadFault, WriteFault, NotAMessage}
 use Rattle.chefsite.specs.Isolation.{reply_texts, IsCutShort}
 use Rattle.chefsite.specs.Turns.{TakesTurn, LosesTurn, EndsTurn, SoFar, EndsStream}
+use Rattle.chefsite.proofs.AloneLemmas.{answered}
 
 -- more bytes go behind those that wait
 passes_more : (held mid now : Option (List ℕ)) (bytes more waited waiting : List ℕ)
@@ -116,7 +117,7 @@ cut_emptying first now place states held gained wrote waited s p =
     let lost : GainsPart held wrote (reply_texts s.exchanges) =
     subst (GainsPart held wrote) (append-nil (reply_texts s.exchanges))
     (loses_more held gained wrote (reply_texts s.exchanges) [] waited s.written (subst (GainsPart gained wrote) (sym (append-nil waited)) p)) in
-    (s.messages, s.exchanges, now, lost.0, lost.1, s.taken, record { requests = s.requests; alone = s.progress.alone }, lost.2, lost.3)
+    (s.messages, s.exchanges, now, lost.0, lost.1, s.taken, answered s.messages s.exchanges s.requests s.progress.alone, lost.2, lost.3)
 
 -- and so does one that fails at the reply of the last turn
 pub cut_turn : (first now : Option (List ℕ)) (place : ℕ) (states : States) (held gained wrote : Option (List ℕ)) (waited : List ℕ)
@@ -135,7 +136,7 @@ cut_turn first now place states held gained wrote waited s t =
       lost.0,
       lost.1,
       TakesAll-push 0 first now t.2 s.messages m s.taken (subst (λ p. Takes p now t.2 m) s.reached t.4.takes),
-      record { requests = requests; alone = (one_more e s.progress t.4.serves).alone },
+      answered (s.messages ++ m ∷ []) (s.exchanges ++ e ∷ []) requests (one_more e s.progress t.4.serves).alone,
       reply_texts-push s.exchanges e ∙ lost.2,
       lost.3,
     )

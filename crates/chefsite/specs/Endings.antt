@@ -4,13 +4,13 @@ use Rattle.outside_core.specs.Failed.{Rose}
 use Rattle.http_wire.specs.Message.{Message}
 use Rattle.http_wire.specs.Splits.{Splits, place_after}
 use Rattle.chefsite.specs.declared.statuses.Status.{Status}
-use Rattle.chefsite.specs.declared.statuses.Status.TheVariants.{Done, Usage, ReadFault, WriteFault, NoMemory, NotAMessage}
+use Rattle.chefsite.specs.declared.statuses.Status.TheVariants.{Done, Usage, ReadFault, WriteFault, NoMemory, NotAMessage, BadFile}
 use Rattle.chefsite.specs.declared.answering.End.{End}
 use Rattle.chefsite.specs.declared.answering.End.TheVariants.{Closed}
 use Rattle.chefsite.specs.declared.answering.End.TheVariants as end
 use Rattle.chefsite.specs.Isolation.{IsAnswered, IsAnsweredToRest, IsAnsweredUpTo, IsCutShort}
 
--- what a status says: `left` and `rest` are what the input had before and has after, `held` and `now` what the output had and has
+-- what a status says, no file being named: `left` and `rest` are what the input had before and has after, `held` and `now` what the output had and has
 abbrev pub Says : Status → Option (List ℕ) → Option (List ℕ) → Option (List ℕ) → Option (List ℕ) → Type 0
 Says Done left rest held now = IsAnswered left rest held now
 Says Usage left rest held now = (rest ≡ left) × (now ≡ held)
@@ -18,6 +18,7 @@ Says ReadFault left rest held now = IsAnsweredUpTo left rest held now
 Says WriteFault left rest held now = IsCutShort left held now
 Says NoMemory left rest held now = (rest ≡ left) × (now ≡ held)
 Says (NotAMessage place) left rest held now = IsAnsweredToRest place left held now
+Says BadFile left rest held now = ⊥
 
 -- a fault comes only where its count rose
 abbrev pub HasStatusCause : Status → ℕ → ℕ → ℕ → ℕ → Type 0
@@ -27,6 +28,7 @@ HasStatusCause ReadFault read_before read_now written_before written_now = Rose 
 HasStatusCause WriteFault read_before read_now written_before written_now = Rose written_before written_now
 HasStatusCause NoMemory read_before read_now written_before written_now = Unit {0}
 HasStatusCause (NotAMessage place) read_before read_now written_before written_now = Unit {0}
+HasStatusCause BadFile read_before read_now written_before written_now = ⊥
 
 -- a stream splits in one way, so a status tells of the rest: 0 comes only where it is empty, and 8 only
 -- where it isn't and begins at the place that is told

@@ -1,8 +1,8 @@
 -- The isolation theorem over bytes: what a run read, what it answered, and what it wrote.
-use Rattle.std.specs.Prelude.{◌≡◌, ◌≢◌, ℕ, List, [], ◌++◌, map, Option, IfSome}
+use Rattle.std.specs.Prelude.{◌≡◌, ◌≢◌, ℕ, List, [], ◌++◌, map, Option, None, IfSome}
 use Rattle.std.specs.List.{flat_map}
 use Rattle.std.specs.Io.KnownBytes.{append_known, prepend_known, IsAtEnd}
-use Rattle.org_machine.specs.Alone.{Exchange, Alone, own, nobody}
+use Rattle.org_machine.specs.Alone.{Exchange, Asked, Alone, asked_in, own, nobody, replies_alone}
 use Rattle.http_wire.specs.Message.{Message}
 use Rattle.http_wire.specs.Splits.{Splits, TakesAll, place_after}
 use Rattle.http_wire.specs.Requests.{request_of}
@@ -16,11 +16,20 @@ reply_texts exchanges = flat_map (λ e. reply_text e.reply) exchanges
 abbrev pub bytes_to : List ℕ → List Exchange → List ℕ
 bytes_to name exchanges = reply_texts (own name exchanges)
 
+-- the bytes that the small machine answers, given these requests and what befell them alone, from no organisation on
+abbrev pub bytes_alone : List Asked → List ℕ
+bytes_alone asked = flat_map reply_text (replies_alone None asked)
+
 -- one reply to the request that each message spells, in order, and to each organisation those of the
 -- small machine that is given its own requests alone
 pub record Answers (messages : List Message) (exchanges : List Exchange) : Type 0 where
   pub requests : map (λ e. e.request) exchanges ≡ map request_of messages
   pub alone : Alone nobody exchanges
+  -- so the bytes answered to an organisation are those of the small machine, whatever the others asked
+  pub bytes : (name : List ℕ) → bytes_to name exchanges ≡ bytes_alone (map asked_in (own name exchanges))
+  -- and two worlds that agree on its own requests and on what befell them give it equal bytes
+  pub worlds : (name : List ℕ) (others : List Exchange) → Alone nobody others
+      → map asked_in (own name others) ≡ map asked_in (own name exchanges) → bytes_to name others ≡ bytes_to name exchanges
 
 -- what was left splits into these messages and this rest, and what was gained since is the texts of
 -- the replies to all of them

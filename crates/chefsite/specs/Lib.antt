@@ -1,4 +1,5 @@
 pub mod Words
+pub mod Reading
 pub mod Statuses
 pub mod Notes
 pub mod Organisations
@@ -7,3 +8,6 @@ pub mod Listing
 pub mod Isolation
 pub mod Turns
 pub mod Endings
+pub mod Explaining
+pub mod Theorems
+pub mod Exits

@@ -1,9 +1,10 @@
 //! chefsite: a Chef Infra Server. `answer` reads requests from standard input to its end and writes
-//! the replies to standard output.
+//! the replies to standard output; `explain` prints the merge of a file's layers of attributes.
 #![tactic(auto)]
 
 mod answer;
 mod answering;
+mod explain;
 mod laws;
 mod listing;
 mod names;
@@ -14,148 +15,194 @@ mod site;
 mod statuses;
 mod words;
 
-ghost use Rattle.std.specs.Prelude.{◌≡◌, ◌⊎◌, ◌↔◌, ◌<◌, ℕ, IfErr};
-ghost use Rattle.outside_core.specs.Failed.{Rose};
-ghost use Rattle.chefsite.specs.Words.{IsCommand};
-ghost use Rattle.chefsite.specs.Endings.{Says, HasStatusCause, TellsRest, IsComplete};
-ghost use Rattle.chefsite.specs.Isolation.{IsAnswered, IsAnsweredToRest, IsAnsweredUpTo, IsCutShort};
-ghost use Rattle.chefsite.specs.Notes.{IsNoted};
+ghost use Rattle.std.specs.Prelude.{◌≡◌, ◌⊎◌, ◌↔◌, ◌<◌, IfErr, IfOk, drop, map, string_bytes};
+ghost use Rattle.std.specs.Vec.Iter.{into_iter_items};
+ghost use Rattle.chefsite.specs.Theorems.{Performed, Ran};
+ghost use Rattle.chefsite.specs.Exits.{Ends, EndsNoted, EndsAsRan};
 
 use answer::answer;
-use doc_tree::{Steps, Text};
+use doc_tree::{NoMemory, Steps, Text};
+use explain::explain;
 pub use laws::two_worlds;
 use notes::note;
 use outside_core::{Reading, Sink, Source, Writing};
+use outside_disk::{Disk, FileDisk};
 use statuses::Status;
 use std::alloc::Global;
 use std::env;
+use std::env::Args;
 use std::hash::RandomState;
-use std::io::{BufReader, ErrorKind};
+use std::io::{BufReader, ErrorKind, Read, Write};
 use std::marker::Brand;
 use std::process::ExitCode;
-use std::rt::Env;
+use std::random::RandomSource;
+use std::rt::{Env, Stderr, Stdin, Stdout};
 use std::sync::ledger::{Blank, Ledger};
-use words::is_command;
+use words::{Command, command_of, file_in};
 
 /// Runs the command that the words name, notes why it ended, and waits for nobody. The maps of the run
 /// hash by `hasher`, which changes no reply.
-pub fn once<I: Source, U: Sink, N: Sink, L: Ledger>(
+pub fn once<I: Source, U: Sink, N: Sink, F: Disk, L: Ledger>(
     alloc: Global,
     words: &[Text],
     input: &mut I,
     output: &mut U,
     notes: &mut N,
+    files: &mut F,
     hasher: RandomState,
     blank: Blank,
 ) -> Status
     requires ledger { (blank.name ≡ L.name) × (blank.parts ≡ L.parts) × (0 < L.parts) }
-    // 0: the input was read to its end, and each request of it was answered as if its organisation were alone.
-    ensures done { result ≡ Status.Done → IsAnswered (I.left input.old) (I.left input.new) (U.gained output.old) (U.gained output.new) }
-    // 2: exactly where the words are no command.
-    ensures usage { (result ≡ Status.Usage) ↔ ¬ (IsCommand words.now) }
-    // 3: only where a read failed; the whole messages of the bytes taken were answered.
-    ensures read_fault { result ≡ Status.ReadFault → IsAnsweredUpTo (I.left input.old) (I.left input.new) (U.gained output.old) (U.gained output.new) }
-    ensures read_cause { result ≡ Status.ReadFault → Rose (I.faults input.old) (I.faults input.new) }
-    // 4: only where a write failed; a front of the replies to some first messages was written.
-    ensures write_fault { result ≡ Status.WriteFault → IsCutShort (I.left input.old) (U.gained output.old) (U.gained output.new) }
-    ensures write_cause { result ≡ Status.WriteFault → Rose (U.faults output.old) (U.faults output.new) }
-    // 8: the whole messages were answered, and what follows them, at the place that is told, isn't nothing and is no message.
-    ensures not_a_message { (place : ℕ) → result ≡ Status.NotAMessage place → IsAnsweredToRest place (I.left input.old) (U.gained output.old) (U.gained output.new) }
-    // 2 and 7: nothing was read or written.
-    ensures nothing { (result ≡ Status.Usage) ⊎ (result ≡ Status.NoMemory) → (I.left input.new ≡ I.left input.old) × (U.gained output.new ≡ U.gained output.old) }
-    ensures rest { TellsRest result (I.left input.old) }
-    ensures complete { IsCommand words.now → IsComplete result (I.left input.old) (I.faults input.old) (I.faults input.new) (U.faults output.old) (U.faults output.new) }
-    // At 0 nothing is noted, and else one line, or a front of it where that write failed.
-    ensures notes { IsNoted result (N.gained notes.old) (N.gained notes.new) (N.faults notes.old) (N.faults notes.new) }
-    ensures quiet { result ≡ Status.Done → notes.new ≡ notes.old }
+    // The isolation theorem, and what each status says: `specs/Theorems.antt` has it field by field.
+    ensures { Ran result words.now
+        (record { old = I.left input.old; new = I.left input.new; faults_before = I.faults input.old; faults_after = I.faults input.new })
+        (record { old = U.gained output.old; new = U.gained output.new; faults_before = U.faults output.old; faults_after = U.faults output.new })
+        (record { old = N.gained notes.old; new = N.gained notes.new; faults_before = N.faults notes.old; faults_after = N.faults notes.new })
+        (record { old = F.files files.old; new = F.files files.new; faults_before = F.faults files.old; faults_after = F.faults files.new })
+        notes.old notes.new }
 {
     let mut steps: Steps<L> = Steps::begin(blank);
-    let status = perform(alloc, words, input, output, hasher, &mut steps);
-    note(notes, status);
+    let status = perform(alloc, words, input, output, files, hasher, &mut steps);
+    note(notes, status, file_in(words));
     status
 }
 
-fn perform<I: Source, U: Sink, L: Ledger>(
+fn perform<I: Source, U: Sink, F: Disk, L: Ledger>(
     alloc: Global,
     words: &[Text],
     input: &mut I,
     output: &mut U,
+    files: &mut F,
     hasher: RandomState,
     steps: &mut Steps<L>,
 ) -> Status
-    ensures says { Says result (I.left input.old) (I.left input.new) (U.gained output.old) (U.gained output.new) }
-    ensures cause { HasStatusCause result (I.faults input.old) (I.faults input.new) (U.faults output.old) (U.faults output.new) }
-    ensures usage { (result ≡ Status.Usage) ↔ ¬ (IsCommand words.now) }
-    ensures rest { TellsRest result (I.left input.old) }
-    ensures complete { IsCommand words.now → IsComplete result (I.left input.old) (I.faults input.old) (I.faults input.new) (U.faults output.old) (U.faults output.new) }
+    ensures { Performed result words.now
+        (record { old = I.left input.old; new = I.left input.new; faults_before = I.faults input.old; faults_after = I.faults input.new })
+        (record { old = U.gained output.old; new = U.gained output.new; faults_before = U.faults output.old; faults_after = U.faults output.new })
+        (record { old = F.files files.old; new = F.files files.new; faults_before = F.faults files.old; faults_after = F.faults files.new }) }
 {
-    if is_command(words) {
-        answer(alloc, input, output, hasher, steps)
-    } else {
-        Status::Usage
+    match command_of(words) {
+        Some(Command::Answer) => answer(alloc, input, output, hasher, steps),
+        Some(Command::Explain(file)) => explain(alloc, file, output, files),
+        None => Status::Usage,
     }
 }
 
-/// Runs the command that the words name, and notes why it ended.
-pub fn run<I: Source, U: Sink, N: Sink, L: Ledger>(
+/// Runs the command that the words name, and notes why it ended. It promises what `once` does.
+pub fn run<I: Source, U: Sink, N: Sink, F: Disk, L: Ledger>(
     alloc: Global,
     words: &[Text],
     input: &mut I,
     output: &mut U,
     notes: &mut N,
+    files: &mut F,
     hasher: RandomState,
     blank: Blank,
 ) -> Status
     requires ledger { (blank.name ≡ L.name) × (blank.parts ≡ L.parts) × (0 < L.parts) }
-    ensures done { result ≡ Status.Done → IsAnswered (I.left input.old) (I.left input.new) (U.gained output.old) (U.gained output.new) }
-    ensures usage { (result ≡ Status.Usage) ↔ ¬ (IsCommand words.now) }
-    ensures read_fault { result ≡ Status.ReadFault → IsAnsweredUpTo (I.left input.old) (I.left input.new) (U.gained output.old) (U.gained output.new) }
-    ensures read_cause { result ≡ Status.ReadFault → Rose (I.faults input.old) (I.faults input.new) }
-    ensures write_fault { result ≡ Status.WriteFault → IsCutShort (I.left input.old) (U.gained output.old) (U.gained output.new) }
-    ensures write_cause { result ≡ Status.WriteFault → Rose (U.faults output.old) (U.faults output.new) }
-    ensures not_a_message { (place : ℕ) → result ≡ Status.NotAMessage place → IsAnsweredToRest place (I.left input.old) (U.gained output.old) (U.gained output.new) }
-    ensures nothing { (result ≡ Status.Usage) ⊎ (result ≡ Status.NoMemory) → (I.left input.new ≡ I.left input.old) × (U.gained output.new ≡ U.gained output.old) }
-    ensures rest { TellsRest result (I.left input.old) }
-    ensures complete { IsCommand words.now → IsComplete result (I.left input.old) (I.faults input.old) (I.faults input.new) (U.faults output.old) (U.faults output.new) }
-    ensures notes { IsNoted result (N.gained notes.old) (N.gained notes.new) (N.faults notes.old) (N.faults notes.new) }
-    ensures quiet { result ≡ Status.Done → notes.new ≡ notes.old }
+    ensures { Ran result words.now
+        (record { old = I.left input.old; new = I.left input.new; faults_before = I.faults input.old; faults_after = I.faults input.new })
+        (record { old = U.gained output.old; new = U.gained output.new; faults_before = U.faults output.old; faults_after = U.faults output.new })
+        (record { old = N.gained notes.old; new = N.gained notes.new; faults_before = N.faults notes.old; faults_after = N.faults notes.new })
+        (record { old = F.files files.old; new = F.files files.new; faults_before = F.faults files.old; faults_after = F.faults files.new })
+        notes.old notes.new }
 {
-    once::<I, U, N, L>(alloc, words, input, output, notes, hasher, blank)
+    once::<I, U, N, F, L>(alloc, words, input, output, notes, files, hasher, blank)
 }
 
+// The types name the streams, so that none is taken for another.
 fn main(rt: HostRuntime) -> ExitCode {
-    let mut notes = Writing::new(rt.stderr());
-    let words = match words_given(&rt) {
-        Ok(words) => words,
-        Err(status) => return end_before(&mut notes, status),
-    };
-    let Ok(reader) = BufReader::new(rt.alloc(), rt.stdin()) else {
-        return end_before(&mut notes, Status::NoMemory);
+    let mut notes: Writing<Stderr> = Writing::new(rt.stderr());
+    let mut files = FileDisk::new(rt);
+    match words_given(&rt) {
+        Ok(words) => with_streams::<_, Stdin, Stdout, Writing<Stderr>, FileDisk<HostRuntime>>(
+            &rt,
+            words.as_slice(),
+            rt.stdin(),
+            rt.stdout(),
+            &mut notes,
+            &mut files,
+        ),
+        Err(status) => end_before(&mut notes, status),
+    }
+}
+
+// Takes what a run needs of the system, and runs over these streams and files.
+fn with_streams<R: RandomSource + AllocGlobal, I: Read + Drop, U: Write + Drop, N: Sink, F: Disk>(
+    rt: &R,
+    words: &[Text],
+    input: I,
+    output: U,
+    notes: &mut N,
+    files: &mut F,
+) -> ExitCode
+    ensures { EndsNoted result
+        (record { old = N.gained notes.old; new = N.gained notes.new; faults_before = N.faults notes.old; faults_after = N.faults notes.new }) }
+{
+    let Ok(reader) = BufReader::new(rt.alloc(), input) else {
+        return end_before(notes, Status::NoMemory);
     };
     // Keys of its own for the maps, so that nobody can choose names that collide in them.
-    let Ok(hasher) = RandomState::new(&rt) else {
-        return end_before(&mut notes, Status::NoMemory);
+    let Ok(hasher) = RandomState::new(rt) else {
+        return end_before(notes, Status::NoMemory);
     };
     let mut input = Reading::new(reader);
-    let mut output = Writing::new(rt.stdout());
-    let status = run::<_, _, _, Brand>(
+    let mut output = Writing::new(output);
+    run_words::<Reading<BufReader<I>>, Writing<U>, N, F>(
         rt.alloc(),
-        words.as_slice(),
+        words,
         &mut input,
         &mut output,
-        &mut notes,
+        notes,
+        files,
+        hasher,
+    )
+}
+
+// Runs the words, and ends with the number of the run's status.
+fn run_words<I: Source, U: Sink, N: Sink, F: Disk>(
+    alloc: Global,
+    words: &[Text],
+    input: &mut I,
+    output: &mut U,
+    notes: &mut N,
+    files: &mut F,
+    hasher: RandomState,
+) -> ExitCode
+    ensures { EndsAsRan result words.now
+        (record { old = I.left input.old; new = I.left input.new; faults_before = I.faults input.old; faults_after = I.faults input.new })
+        (record { old = U.gained output.old; new = U.gained output.new; faults_before = U.faults output.old; faults_after = U.faults output.new })
+        (record { old = N.gained notes.old; new = N.gained notes.new; faults_before = N.faults notes.old; faults_after = N.faults notes.new })
+        (record { old = F.files files.old; new = F.files files.new; faults_before = F.faults files.old; faults_after = F.faults files.new })
+        notes.old notes.new }
+{
+    let status = run::<I, U, N, F, Brand>(
+        alloc,
+        words,
+        input,
+        output,
+        notes,
+        files,
         hasher,
         Blank::new(1),
     );
+    exit_with(status)
+}
+
+fn exit_with(status: Status) -> ExitCode
+    ensures { Ends result status }
+{
     ExitCode::from(status.code())
 }
 
-// Ends before anything is run.
+// Ends before anything is run, with the number of a status that is noted.
 fn end_before<N: Sink>(notes: &mut N, status: Status) -> ExitCode
-    ensures { IsNoted status (N.gained notes.old) (N.gained notes.new) (N.faults notes.old) (N.faults notes.new) }
+    ensures noted { EndsNoted result
+        (record { old = N.gained notes.old; new = N.gained notes.new; faults_before = N.faults notes.old; faults_after = N.faults notes.new }) }
+    ensures number { Ends result status }
 {
-    note(notes, status);
-    ExitCode::from(status.code())
+    note(notes, status, "");
+    exit_with(status)
 }
 
 // The words after the program's name. One that isn't text makes them no command.
@@ -166,15 +213,26 @@ fn words_given<R: Env + AllocGlobal>(rt: &R) -> Result<Vec<Text>, Status>
         Ok(arguments) => arguments,
         Err(error) => return Err(status_without_words(error.kind())),
     };
-    let mut words = Vec::new(rt.alloc());
-    for argument in arguments.skip(1) {
-        if words.push(Text::of(argument)).is_err() {
-            return Err(Status::NoMemory);
-        }
+    match words_of(rt.alloc(), arguments) {
+        Ok(words) => Ok(words),
+        Err(NoMemory) => Err(Status::NoMemory),
+    }
+}
+
+// The words among the program's arguments: all but the first, which is its own name.
+fn words_of(alloc: Global, arguments: Args) -> Result<Vec<Text>, NoMemory>
+    ensures { IfOk result (λ words. words.items ≡ map string_bytes (drop 1 (into_iter_items arguments))) }
+{
+    let mut arguments = arguments;
+    let _name = arguments.next();
+    let mut words = Vec::new(alloc);
+    for argument in arguments {
+        words.push(Text::of(argument))?;
     }
     Ok(words)
 }
 
+// An argument that isn't text makes the words no command. Else memory was wanting for them.
 fn status_without_words(kind: ErrorKind) -> Status
     ensures usage { (result ≡ Status.Usage) ↔ (kind ≡ ErrorKind.InvalidData) }
     ensures memory { (result ≡ Status.NoMemory) ↔ ¬ (kind ≡ ErrorKind.InvalidData) }
@@ -186,5 +244,7 @@ fn status_without_words(kind: ErrorKind) -> Status
     }
 }
 
+#[cfg(test)]
+mod explain_tests;
 #[cfg(test)]
 mod tests;

@@ -1,8 +1,9 @@
 //! The organisations of a site, kept in shards: the contract that a shard has is all that the
 //! theorem above stands on.
 
-ghost use Rattle.std.specs.Prelude.{◌≡◌, ℕ, List};
+ghost use Rattle.std.specs.Prelude.{◌≡◌, ◌≢◌, ℕ, List, None};
 ghost use Rattle.std.specs.Option.{ForSome};
+ghost use Rattle.org_core.specs.States.{state_in};
 ghost use Rattle.chefsite.specs.Organisations.{kept_at};
 
 use crate::names::{add_name, is_shown};
@@ -20,12 +21,13 @@ pub struct Shard {
     organisations: IndexMap<Text, OrgState, RandomState>,
     hasher: RandomState,
     ghost named: { (name : List ℕ) → ForSome (kept_at organisations name) (λ kept. kept.name ≡ name) },
+    // None is kept that isn't there, so what is asked of strangers costs no memory.
+    ghost there: { (name : List ℕ) → ForSome (kept_at organisations name) (λ kept. state_in kept ≢ None) },
 }
 
 impl Shard {
-    ghost use Rattle.std.specs.Prelude.{◌<◌, ◌≤◌, ◌||◌, None, Some, IfOk, OnOk};
+    ghost use Rattle.std.specs.Prelude.{◌<◌, ◌≤◌, ◌||◌, Some, IfOk, OnOk};
     ghost use Rattle.org_core.specs.Requests.{org_of};
-    ghost use Rattle.org_core.specs.States.{state_in};
     ghost use Rattle.org_machine.specs.Marks.{mark_of, answer, IsLawful};
     ghost use Rattle.org_machine.specs.Serving.{IsGood, state_then};
     ghost use Rattle.chefsite.specs.Shards.{states_in, HasRoom};

@@ -6,19 +6,23 @@ ghost use Rattle.chefsite.specs.Statuses as spec;
 /// How a command ended.
 #[derive(Clone, Copy, Debug, PartialEq, Eq)]
 pub enum Status {
-    /// 0: all done, and the input was read to its end.
+    /// 0: all done. `answer` has read the input to its end.
     Done,
     /// 2: the words are no command. Nothing was read or written.
     Usage,
-    /// 3: a read failed. What was read before it was answered.
+    /// 3: a read failed. `answer` has answered what was read before it; `explain` has written nothing.
     ReadFault,
-    /// 4: a write failed. Some first replies were written, the last perhaps in part.
+    /// 4: a write failed. Some first replies or lines were written, the last perhaps in part.
     WriteFault,
-    /// 7: no memory was left to begin with. Nothing was read or written.
+    /// 7: no memory was left. `answer` takes its own before it reads, and `explain` before it writes:
+    /// nothing was written, and no input was read.
     NoMemory,
     /// 8: what follows the last whole message isn't nothing and is no message. The place of its first
     /// byte is counted from the first byte of the input.
     NotAMessage { place: u64 },
+    /// 13: the file that the words name isn't there, or its bytes haven't its format. Nothing was
+    /// written.
+    BadFile,
 }
 
 impl Status {
@@ -33,6 +37,7 @@ impl Status {
             Status::WriteFault => 4,
             Status::NoMemory => 7,
             Status::NotAMessage { place: _ } => 8,
+            Status::BadFile => 13,
         }
     }
 }

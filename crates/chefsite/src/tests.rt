@@ -4,6 +4,7 @@ ghost use Rattle.std.specs.Prelude.{◌<◌};
 use super::*;
 use doc_tree::Text;
 use outside_core::{MemSink, MemSource};
+use outside_disk::MemDisk;
 use std::alloc::AllocError;
 use std::test::Fail;
 
@@ -134,12 +135,14 @@ fn ran(
     let mut input = MemSource::new(input.to_vec(alloc)?, piece, reads);
     let mut output = MemSink::new(alloc, writes, 100_000)?;
     let mut notes = MemSink::new(alloc, Vec::new(alloc), 100)?;
-    let status = run::<_, _, _, Brand>(
+    let mut files = MemDisk::new(alloc, Vec::new(alloc), 0);
+    let status = run::<_, _, _, _, Brand>(
         alloc,
         words.as_slice(),
         &mut input,
         &mut output,
         &mut notes,
+        &mut files,
         hasher,
         Blank::new(1),
     );
@@ -523,12 +526,14 @@ fn other_words_are_no_command(rt: HostRuntime) -> Result<(), Fail> {
         );
         let mut output = MemSink::new(alloc, Vec::new(alloc), 100)?;
         let mut notes = MemSink::new(alloc, vec![in alloc; failing]?, room)?;
-        let status = once::<_, _, _, Brand>(
+        let mut files = MemDisk::new(alloc, Vec::new(alloc), 0);
+        let status = once::<_, _, _, _, Brand>(
             alloc,
             given.as_slice(),
             &mut input,
             &mut output,
             &mut notes,
+            &mut files,
             hasher,
             Blank::new(1),
         );

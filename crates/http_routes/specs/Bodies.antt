@@ -4,6 +4,8 @@ use Rattle.doc_tree.specs.Doc.{Doc}
 use Rattle.doc_tree.specs.Tree.{tree_of}
 use Rattle.doc_tree.specs.Read.{reads}
 use Rattle.doc_tree.specs.declared.read.ReadFault.{ReadFault}
+use Rattle.doc_tree.specs.declared.read.ReadFault.TheVariants.{NotJson, TooDeep, NotWhole, NoMemory}
+use Rattle.org_core.specs.declared.requests.BadBody.TheVariants as bad
 use Rattle.org_core.specs.declared.requests.Body.{Body}
 use Rattle.org_core.specs.declared.requests.Body.TheVariants.{Empty, Doc as Read, Bad, TooLong}
 use Rattle.org_core.specs.declared.requests.Place.{Place}
@@ -38,10 +40,13 @@ is_looked_at head = is_creation head.place head.verb || not (is_some (head_refus
 abbrev pub form_in : Request → BodyForm
 form_in head = cond (is_looked_at head) (form_at head.place head.verb) Dropped
 
--- the tree that was read, or the fault
+-- the tree that was read, or the fault. No bytes read as want of memory, which is a fault of the reading alone
 abbrev pub body_from : Result Doc ReadFault → Body
 body_from (Ok doc) = Read (tree_of doc)
-body_from (Err fault) = Bad fault
+body_from (Err NotJson) = Bad bad.NotJson
+body_from (Err TooDeep) = Bad bad.TooDeep
+body_from (Err NotWhole) = Bad bad.NotWhole
+body_from (Err NoMemory) = Bad bad.NotJson
 
 -- a body that isn't too long, by its form
 abbrev pub short_body : BodyForm → List ℕ → Body

@@ -5,7 +5,7 @@ ghost use Rattle.std.specs.Prelude.{◌≡◌, IfOk};
 
 use crate::places::is_creation;
 use doc_tree::{NoMemory, ReadFault, read_json};
-use org_core::{Body, Place, Request};
+use org_core::{BadBody, Body, Place, Request};
 use org_machine::head_refusal;
 use route_table::Verb;
 use std::alloc::Global;
@@ -50,7 +50,7 @@ fn form_at(_place: &Place, verb: Verb) -> BodyForm
 }
 
 /// A body of at most 4,194,304 bytes, by its form. Of a longer one the caller makes `Body::TooLong`,
-/// whatever its bytes. `Body::Bad` holds the first fault of the JSON, never `ReadFault::NoMemory`.
+/// whatever its bytes. `Body::Bad` holds the first fault of the JSON.
 pub fn body_of(alloc: Global, form: BodyForm, bytes: &[u8]) -> Result<Body, NoMemory>
     ensures { IfOk result (λ body. body ≡ spec.short_body form bytes.now) }
 {
@@ -65,7 +65,9 @@ fn body_from(alloc: Global, bytes: &[u8]) -> Result<Body, NoMemory>
 {
     match read_json(alloc, bytes) {
         Ok(tree) => Ok(Body::Doc(tree)),
+        Err(ReadFault::NotJson) => Ok(Body::Bad(BadBody::NotJson)),
+        Err(ReadFault::TooDeep) => Ok(Body::Bad(BadBody::TooDeep)),
+        Err(ReadFault::NotWhole) => Ok(Body::Bad(BadBody::NotWhole)),
         Err(ReadFault::NoMemory) => Err(NoMemory),
-        Err(fault) => Ok(Body::Bad(fault)),
     }
 }

@@ -31,3 +31,7 @@ abbrev pub TakesAll : ℕ → Option (List ℕ) → Option (List ℕ) → List M
 TakesAll place old new [] = old ≡ new
 TakesAll place old new (m ∷ ms) =
     (mid : Option (List ℕ)) × Takes place old mid m × TakesAll (place + length (print_message m)) mid new ms
+
+-- what is left of a stream lost some bytes at its front, or none
+abbrev pub LosesFront : Option (List ℕ) → Option (List ℕ) → Type 0
+LosesFront old new = (gone : List ℕ) × (old ≡ prepend_known gone new)

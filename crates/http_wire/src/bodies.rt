@@ -1,10 +1,11 @@
 //! The body of a message, read to its end: what is looked at is kept.
-ghost use Rattle.std.specs.Prelude.{◌≡◌, ℕ, ◌+◌, ◌-◌, ◌<◌, ◌≤◌, ◌++◌, List, [], IfOk, IfSome, min, length, take, drop};
+ghost use Rattle.std.specs.Prelude.{◌≡◌, ℕ, ◌+◌, ◌-◌, ◌<◌, ◌≤◌, ◌++◌, List, [], IfOk, IfSome, OnErr, min, length, take, drop};
 ghost use Rattle.std.specs.Io.KnownBytes.{prepend_known};
 ghost use Rattle.http_routes.specs.declared.bodies.BodyForm.{BodyForm as Form};
 ghost use Rattle.http_routes.specs.declared.bodies.BodyForm.TheVariants.{Json};
 ghost use Rattle.http_wire.specs.Bodies.{IsBody};
 ghost use Rattle.http_wire.specs.Room.{stream};
+ghost use Rattle.http_wire.specs.Splits.{LosesFront};
 ghost use Rattle.http_wire.specs.Faults.{OnNotAMessage, OnReadFault, HasReadCause};
 
 use crate::faults::WireFault;
@@ -43,6 +44,7 @@ pub(crate) fn read_body<S: Source>(
         × IfSome (stream room.old (S.left source.old)) (λ bytes. length bytes < size)) }
     ensures partial { OnReadFault result ((taken : List ℕ) × (length taken < size)
         × (stream room.old (S.left source.old) ≡ prepend_known taken (S.left source.new))) }
+    ensures lost { OnErr result (LosesFront (stream room.old (S.left source.old)) (stream room.new (S.left source.new))) }
     ensures place { room.new.place ≡ room.old.place }
     ensures aside { S.aside source.new ≡ S.aside source.old }
     ensures cause { HasReadCause (S.faults source.old) (S.faults source.new) result }

@@ -7,6 +7,7 @@ ghost use Rattle.http_wire.specs.Message.{Message, Begins, BeginsNone, last_plac
 ghost use Rattle.http_wire.specs.Frames.{framed_size, IsFramed};
 ghost use Rattle.http_wire.specs.Bodies.{IsBody};
 ghost use Rattle.http_wire.specs.Room.{stream};
+ghost use Rattle.http_wire.specs.Splits.{LosesFront};
 ghost use Rattle.http_wire.specs.Faults.{OnNotAMessage, OnReadFault, NoneBeginsIn, HasReadCause};
 
 use crate::bodies::{KeptBody, read_body};
@@ -96,6 +97,7 @@ pub(crate) fn end_message<S: Source>(
         × IfSome (stream room.old (S.left source.old)) (λ bytes. length bytes < len + size)) }
     ensures partial { OnReadFault result ((taken : List ℕ) × (length taken < size)
         × (stream room.old (S.left source.old) ≡ prepend_known (take len room.old.held) (prepend_known taken (S.left source.new)))) }
+    ensures lost { OnErr result (LosesFront (stream room.old (S.left source.old)) (stream room.new (S.left source.new))) }
     ensures stays { OnErr result (room.new.place ≡ room.old.place) }
     ensures aside { S.aside source.new ≡ S.aside source.old }
     ensures cause { HasReadCause (S.faults source.old) (S.faults source.new) result }

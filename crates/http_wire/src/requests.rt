@@ -12,7 +12,7 @@ ghost use Rattle.http_wire.specs.Frames.{IsFramed};
 ghost use Rattle.http_wire.specs.Message.{Message, print_message, BeginsNone, NoneBegins, last_place};
 ghost use Rattle.http_wire.specs.Requests.{request_of, callers_in, versions_in, connections_in, IsRead};
 ghost use Rattle.http_wire.specs.Room.{stream};
-ghost use Rattle.http_wire.specs.Splits.{Takes};
+ghost use Rattle.http_wire.specs.Splits.{Takes, LosesFront};
 
 use crate::bodies::KeptBody;
 use crate::faults::WireFault;
@@ -33,8 +33,10 @@ use std::alloc::Global;
 ///
 /// A request whose parts or body find no memory is read to its end all the same, and has the place
 /// `NoMemory`. [`WireFault::ReadFault`] comes only where the source counted a fault, and
-/// [`WireFault::NotAMessage`] exactly where bytes are left and begin no whole message; behind either
-/// the stream can't be read on.
+/// [`WireFault::NotAMessage`] only where bytes are left that begin no whole message; where that is so,
+/// no message is read. After either, of what the room held and the source had left some front may be
+/// gone, and what both have now is the rest of it; the room's place stays that of the message which
+/// wasn't read, so the stream isn't to be read on.
 pub fn read_message<S: Source>(
     alloc: Global,
     source: &mut S,
@@ -48,6 +50,9 @@ pub fn read_message<S: Source>(
     ensures exactly { IsSomeAnd (stream room.old (S.left source.old)) (NoneBegins room.old.place) → IsErr result }
     ensures partial { OnReadFault result ((taken : List ℕ) × BeginsNone (last_place - room.old.place) taken
         × (stream room.old (S.left source.old) ≡ prepend_known taken (S.left source.new))) }
+    // After a fault what is left is the rest of what was left, in the room and in the source, and the place is that of the message which wasn't read.
+    ensures lost { OnErr result (LosesFront (stream room.old (S.left source.old)) (stream room.new (S.left source.new))) }
+    ensures stays { OnErr result (room.new.place ≡ room.old.place) }
     ensures aside { S.aside source.new ≡ S.aside source.old }
     ensures cause { HasReadCause (S.faults source.old) (S.faults source.new) result }
 {
@@ -74,6 +79,8 @@ fn read_framed<S: Source>(
     ensures none { OnNotAMessage result (λ place. (place ≡ room.old.place) × NoneBeginsIn place (stream room.old (S.left source.old))) }
     ensures partial { OnReadFault result ((taken : List ℕ) × BeginsNone (last_place - room.old.place) taken
         × (stream room.old (S.left source.old) ≡ prepend_known taken (S.left source.new))) }
+    ensures lost { OnErr result (LosesFront (stream room.old (S.left source.old)) (stream room.new (S.left source.new))) }
+    ensures stays { OnErr result (room.new.place ≡ room.old.place) }
     ensures aside { S.aside source.new ≡ S.aside source.old }
     ensures cause { HasReadCause (S.faults source.old) (S.faults source.new) result }
 {

@@ -1,5 +1,7 @@
-mod NamedLemmas
-mod PairLemmas
-mod ReadBackLemmas
-mod RunListLemmas
-mod SettledLemmas
+pub mod GroupLemmas
+pub mod NamedLemmas
+pub mod PairLemmas
+pub mod ReadBackLemmas
+pub mod RunListLemmas
+pub mod SettledLemmas
+pub mod StoredLemmas

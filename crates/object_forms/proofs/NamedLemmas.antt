@@ -159,7 +159,7 @@ named_fields kind name body start out (Ok made) known here is =
     subst (λ (found : Option Doc). NamedBy name (option_and_then name_from found)) (sym (kept-fields (key_of kind) _ body made out (apart kind) is))
     (row_named kind name (pair_at (name_row kind name).name body) start made known here)
 
-named_made : (kind : Kind) (name : Option (List ℕ)) (body : Pairs) (made : Result (List (List ℕ × Doc)) (List ℕ)) (d : Doc) → IfSome name (λ n. IsTrue (is_name n))
+pub named_made : (kind : Kind) (name : Option (List ℕ)) (body : Pairs) (made : Result (List (List ℕ × Doc)) (List ℕ)) (d : Doc) → IfSome name (λ n. IsTrue (is_name n))
     → fields_of (rows kind name) body (beside kind body) ≡ made → made_of made ≡ Ok d → IsNamed kind name d
 named_made kind name body (Err field) d known here is = cc
 named_made kind name body (Ok out) d known here is = subst (IsNamed kind name) (same_Ok _ _ is) (named_fields kind name body (beside kind body) out _ known refl here)

@@ -12,7 +12,8 @@ use Rattle.object_forms.specs.Fields.{Row, Absent, field, fault, nothing, stands
 use Rattle.object_forms.specs.Forms as forms
 use Rattle.object_forms.specs.Forms.{Form, stored, name_from}
 use Rattle.object_forms.specs.Kinds.{table, is_item}
-use Rattle.object_forms.specs.Objects.{key_of, name_row, name_form, rows, beside, made_of, object_of, object_from, is_no_id, body_of, item_in, name_in}
+use Rattle.object_forms.specs.Objects.{key_of, name_row, name_form, rows, beside, made_of, object_of, object_from, by_table, is_no_id, body_of, item_in, name_in}
+use Rattle.object_forms.proofs.GroupLemmas.{group_again}
 use Rattle.object_forms.proofs.NamedLemmas.{same_Ok, none_named, apart, and_first, and_second, not_true, kept-fields, kept-taken}
 use Rattle.object_forms.proofs.PairLemmas.{pair_at-own}
 use Rattle.object_forms.proofs.SettledLemmas.{settled}
@@ -205,7 +206,7 @@ no_item kind None plain = refl
 no_item kind (Some name) plain = and_false _ (is_item kind) plain
 
 -- of any kind but an item, a body stands for itself
-as_sent : (kind : Kind) (path : Option (List ℕ)) (d : Doc) → IsFalse (is_item kind) → object_from kind path d ≡ object_of kind path d
+as_sent : (kind : Kind) (path : Option (List ℕ)) (d : Doc) → IsFalse (is_item kind) → by_table kind path d ≡ object_of kind path d
 as_sent kind path d plain = ap (λ b. cond b (Err (key_of kind)) (object_of kind path (body_of kind d))) (no_item kind path plain) ∙ ap (λ b. object_of kind path (cond b (item_in d) d)) plain
 
 reads_dict : (kind : Kind) (path : Option (List ℕ)) (body stored : Doc) (name : List ℕ) → IsFalse (is_item kind) → object_of kind path body ≡ Ok stored → name_in kind stored ≡ Some name → object_of kind (Some name) stored ≡ Ok stored
@@ -217,6 +218,26 @@ reads_dict kind path (list ds) stored name plain is named = cc
 reads_dict kind path (dict ps) stored name plain is named =
     object_made kind path name ps stored _ refl (ap (λ made. made_of (fields_of (rows kind path) ps made)) (sym (none_beside kind ps plain)) ∙ is) named plain
 
+reads_table : (kind : Kind) (path : Option (List ℕ)) (body stored : Doc) (name : List ℕ) → IsFalse (is_item kind) → by_table kind path body ≡ Ok stored → name_in kind stored ≡ Some name
+    → by_table kind (Some name) stored ≡ Ok stored
+reads_table kind path body stored name plain is named = as_sent kind (Some name) stored plain ∙ reads_dict kind path body stored name plain (sym (as_sent kind path body plain) ∙ is) named
+
 pub reads_back : (kind : Kind) (path : Option (List ℕ)) (body stored : Doc) (name : List ℕ) → IsFalse (is_item kind) → object_from kind path body ≡ Ok stored → name_in kind stored ≡ Some name
     → object_from kind (Some name) stored ≡ Ok stored
-reads_back kind path body stored name plain is named = as_sent kind (Some name) stored plain ∙ reads_dict kind path body stored name plain (sym (as_sent kind path body plain) ∙ is) named
+reads_back Org path body stored name plain is named = reads_table Org path body stored name plain is named
+reads_back Node path body stored name plain is named = reads_table Node path body stored name plain is named
+reads_back Role path body stored name plain is named = reads_table Role path body stored name plain is named
+reads_back Environment path body stored name plain is named = reads_table Environment path body stored name plain is named
+reads_back Bag path body stored name plain is named = reads_table Bag path body stored name plain is named
+reads_back Client path body stored name plain is named = reads_table Client path body stored name plain is named
+reads_back User path body stored name plain is named = reads_table User path body stored name plain is named
+reads_back Group path body stored name plain is named = group_again path body stored name is named
+reads_back Container path body stored name plain is named = reads_table Container path body stored name plain is named
+reads_back Item path body stored name plain is named = reads_table Item path body stored name plain is named
+reads_back Cookbook path body stored name plain is named = reads_table Cookbook path body stored name plain is named
+reads_back Artifact path body stored name plain is named = reads_table Artifact path body stored name plain is named
+reads_back Policy path body stored name plain is named = reads_table Policy path body stored name plain is named
+reads_back PolicyGroup path body stored name plain is named = reads_table PolicyGroup path body stored name plain is named
+reads_back Acl path body stored name plain is named = reads_table Acl path body stored name plain is named
+reads_back Sandbox path body stored name plain is named = reads_table Sandbox path body stored name plain is named
+reads_back File path body stored name plain is named = reads_table File path body stored name plain is named

@@ -57,7 +57,7 @@ table Environment = Some environment
 table Bag = Some []
 table Client = Some client
 table User = None
-table Group = None
+table Group = Some []
 table Container = None
 table Item = Some []
 table Cookbook = None
@@ -91,3 +91,23 @@ is_item PolicyGroup = false
 is_item Acl = false
 is_item Sandbox = false
 is_item File = false
+
+-- a group
+abbrev pub is_group : Kind → Bool
+is_group Org = false
+is_group Node = false
+is_group Role = false
+is_group Environment = false
+is_group Bag = false
+is_group Client = false
+is_group User = false
+is_group Group = true
+is_group Container = false
+is_group Item = false
+is_group Cookbook = false
+is_group Artifact = false
+is_group Policy = false
+is_group PolicyGroup = false
+is_group Acl = false
+is_group Sandbox = false
+is_group File = false

@@ -2,6 +2,7 @@ pub mod Forms
 pub mod Fields
 pub mod Kinds
 pub mod Laws
+pub mod Groups
 pub mod Objects
 pub mod Outcomes
 pub mod Rules

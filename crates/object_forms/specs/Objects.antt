@@ -5,11 +5,12 @@ use Rattle.doc_tree.specs.Part.{part_at, pair_at}
 use Rattle.doc_tree.specs.declared.kind.Kind.{Kind}
 use Rattle.object_forms.specs.Forms.{Form, a_name, an_id, exactly, a_dict, stored, name_from}
 use Rattle.object_forms.specs.Fields.{Row, field, fault, always, fields_of}
-use Rattle.object_forms.specs.Kinds.{table, is_item}
+use Rattle.object_forms.specs.Groups.{group_from}
+use Rattle.object_forms.specs.Kinds.{table, is_item, is_group}
 
--- the field that names an object: `id` of an item, and else `name`
+-- the field that names an object: `id` of an item, `groupname` of a group, and else `name`
 abbrev pub key_of : Kind → List ℕ
-key_of kind = cond (is_item kind) (codes "id") (codes "name")
+key_of kind = cond (is_item kind) (codes "id") (cond (is_group kind) (codes "groupname") (codes "name"))
 
 -- the form of the field that names an object, where the path doesn't name it
 abbrev pub name_form : Kind → Form
@@ -76,9 +77,13 @@ object_of kind name (words text) = Err (key_of kind)
 object_of kind name (list ds) = Err (key_of kind)
 object_of kind name (dict body) = object_in kind name body
 
+-- the object that a body gives by its kind's table
+abbrev pub by_table : Kind → Option (List ℕ) → Doc → Result Doc (List ℕ)
+by_table kind name d = cond (is_no_id kind name) (Err (key_of kind)) (object_of kind name (body_of kind d))
+
 -- the object that a body gives under the path's name, if there is one, or the first field that hasn't its form
 abbrev pub object_from : Kind → Option (List ℕ) → Doc → Result Doc (List ℕ)
-object_from kind name d = cond (is_no_id kind name) (Err (key_of kind)) (object_of kind name (body_of kind d))
+object_from kind name d = cond (is_group kind) (group_from name d) (by_table kind name d)
 
 -- the Name at the key that names an object
 abbrev pub name_in : Kind → Doc → Option (List ℕ)

@@ -4,6 +4,7 @@
 mod fault;
 mod fields;
 mod forms;
+mod groups;
 mod laws;
 mod objects;
 mod rules;
@@ -13,5 +14,5 @@ mod tables;
 mod tests;
 
 pub use fault::FormFault;
-pub use laws::stored_objects_read_back;
+pub use laws::{stored_objects_are_named, stored_objects_read_back};
 pub use objects::read_object;

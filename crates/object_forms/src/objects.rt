@@ -12,6 +12,7 @@ ghost use Rattle.object_forms.specs.Rules.{form_of, row_of};
 use crate::fault::{FormFault, bad_field};
 use crate::fields::{fields_from, put_field};
 use crate::forms::{is_dict, is_exactly};
+use crate::groups::read_group;
 use crate::rules::{Absent, Form, Rule};
 use crate::tables::table_of;
 use doc_tree::{Fields, Kind, Name, NoMemory, Tree};
@@ -22,6 +23,10 @@ use std::alloc::Global;
 /// Under a path's name the body's name, or an item's id, may be missing and else equals it; without one it must be
 /// there. A field that is missing has its default. Keys that the table doesn't list are dropped, but those of an item
 /// are kept. An item may come as the `raw_data` of a `Chef::DataBagItem`.
+///
+/// A group is named by `groupname`, or else by `name`. Without a path's name it is a new one, which has no members
+/// whatever is sent; under one, `actors` may be a Dict whose `users`, `clients` and `groups` are lists of texts, each
+/// empty where it is missing. They are stored in the order of their bytes, each once.
 ///
 /// It is `BadField` exactly where a field hasn't its form, with the first in the order of the table. A body that is no
 /// Dict, and an item under the path's name `_acl`, fail as the name or id does.
@@ -35,7 +40,11 @@ pub fn read_object(
     ensures object { Gives result (spec.object_from kind (option_copied name.entry) (doc_of tree.now)) }
     ensures named { IfOk result (λ t. spec.IsNamed kind (option_copied name.entry) (doc_of t)) }
 {
-    if is_no_id(kind, name) {
+    let no_id = is_no_id(kind, name);
+    if is_group(kind) {
+        return read_group(alloc, tree, name);
+    }
+    if no_id {
         return Err(bad_field(alloc, key_of(kind)));
     }
     match body_of(kind, tree) {
@@ -67,11 +76,23 @@ fn is_item(kind: Kind) -> bool
     matches!(kind, Kind::Item)
 }
 
+fn is_group(kind: Kind) -> bool
+    ensures { result ≡ kinds.is_group kind }
+{
+    matches!(kind, Kind::Group)
+}
+
 /// The key of the field that names an object.
 fn key_of(kind: Kind) -> &'static str
     ensures { result.now ≡ spec.key_of kind }
 {
-    if is_item(kind) { "id" } else { "name" }
+    if is_item(kind) {
+        "id"
+    } else if is_group(kind) {
+        "groupname"
+    } else {
+        "name"
+    }
 }
 
 /// The field that names an object.

@@ -421,6 +421,77 @@ const ITEMS: [Row; 21] = [
     ("_acl", r#"{"id":"_acl"}"#, "bad field id"),
 ];
 
+const GROUPS: [Row; 24] = [
+    (
+        "",
+        r#"{"groupname":"ops"}"#,
+        r#"{"actors":{"clients":[],"groups":[],"users":[]},"groupname":"ops"}"#,
+    ),
+    (
+        "",
+        r#"{"name":"ops","actors":1,"extra":1}"#,
+        r#"{"actors":{"clients":[],"groups":[],"users":[]},"groupname":"ops"}"#,
+    ),
+    (
+        "",
+        r#"{"name":1,"groupname":"ops","actors":{"users":["ann"]}}"#,
+        r#"{"actors":{"clients":[],"groups":[],"users":[]},"groupname":"ops"}"#,
+    ),
+    ("", "{}", "bad field groupname"),
+    ("", "[]", "bad field groupname"),
+    ("", "null", "bad field groupname"),
+    (
+        "",
+        r#"{"groupname":"","name":"ops"}"#,
+        "bad field groupname",
+    ),
+    ("", r#"{"groupname":null}"#, "bad field groupname"),
+    ("", r#"{"name":"a b"}"#, "bad field name"),
+    (
+        "ops",
+        "{}",
+        r#"{"actors":{"clients":[],"groups":[],"users":[]},"groupname":"ops"}"#,
+    ),
+    (
+        "ops",
+        r#"{"groupname":"ops","actors":{"users":["zed","ann","zed"],"clients":["c10","c1","c"],"groups":["users","admins"]},"extra":1}"#,
+        r#"{"actors":{"clients":["c","c1","c10"],"groups":["admins","users"],"users":["ann","zed"]},"groupname":"ops"}"#,
+    ),
+    (
+        "ops",
+        r#"{"name":"ops","actors":{"clients":["c1"],"extra":1}}"#,
+        r#"{"actors":{"clients":["c1"],"groups":[],"users":[]},"groupname":"ops"}"#,
+    ),
+    (
+        "ops",
+        r#"{"name":1,"groupname":"ops"}"#,
+        r#"{"actors":{"clients":[],"groups":[],"users":[]},"groupname":"ops"}"#,
+    ),
+    ("ops", r#"{"groupname":"dev"}"#, "bad field groupname"),
+    ("ops", r#"{"name":"dev"}"#, "bad field name"),
+    (
+        "ops",
+        r#"{"groupname":"dev","actors":1}"#,
+        "bad field groupname",
+    ),
+    ("ops", r#"{"actors":[]}"#, "bad field actors"),
+    ("ops", r#"{"actors":null}"#, "bad field actors"),
+    ("ops", r#"{"actors":{"users":{}}}"#, "bad field actors"),
+    (
+        "ops",
+        r#"{"actors":{"users":["ann",1]}}"#,
+        "bad field actors",
+    ),
+    ("ops", r#"{"actors":{"clients":"c1"}}"#, "bad field actors"),
+    (
+        "ops",
+        r#"{"actors":{"clients":[null]}}"#,
+        "bad field actors",
+    ),
+    ("ops", r#"{"actors":{"groups":0}}"#, "bad field actors"),
+    ("ops", r#"{"actors":{"groups":[[]]}}"#, "bad field actors"),
+];
+
 /// The Name that a text is; the empty text is none.
 fn name_from(alloc: Global, text: &str) -> Result<Option<Name>, Fail> {
     if text.is_empty() {
@@ -466,5 +537,6 @@ fn bodies_are_read_and_stored(rt: HostRuntime) -> Result<(), Fail> {
     meets(&rt, alloc, Kind::Environment, &ENVIRONMENTS)?;
     meets(&rt, alloc, Kind::Client, &CLIENTS)?;
     meets(&rt, alloc, Kind::Bag, &BAGS)?;
+    meets(&rt, alloc, Kind::Group, &GROUPS)?;
     meets(&rt, alloc, Kind::Item, &ITEMS)
 }

@@ -3,11 +3,13 @@
 
 mod bodies;
 mod data_bags;
+mod laws;
 mod objects;
 mod operations;
 mod organisations;
 
 pub use data_bags::DataBags;
+pub use laws::{default_environment_is_read, groups_keep_conditions};
 pub use objects::PlainObjects;
 pub use operations::{DataOperation, ObjectsOperation, OrganisationOperation};
 pub use organisations::{ORGANISATIONS, Organisations};

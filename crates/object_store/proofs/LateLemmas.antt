@@ -8,44 +8,44 @@ use Rattle.std.specs.Borrow.{Bor}
 use Rattle.std.specs.Cmp.Lexicographic.{nat_list_eq_equiv}
 use Rattle.doc_tree.specs.declared.kind.Kind.{Kind}
 use Rattle.doc_tree.specs.declared.kind.Kind.TheVariants as kind
-use Rattle.doc_tree.specs.declared.tree.Tree.{Tree}
 use Rattle.object_store.specs.declared.key.Key.{Key}
 use Rattle.object_store.specs.Keys.{key, key_cmp_total, same_key, is_of}
 use Rattle.object_store.specs.Items.{behind_front, item_front, item_name}
 use Rattle.object_store.proofs.ItemsLemmas.{names_item, names_no_item}
 use Rattle.object_store.proofs.KeysLemmas.{same_key-key}
 
--- no key before this one is equal to it
-apart : (done rest : List (Key × Tree)) (key earlier : Key) (tree : Tree) → AllByRecursion (λ k. same_key earlier k ≡ false) (keys_of (done ++ (key, tree) ∷ rest))
-    → same_key key earlier ≡ false
-apart [] rest key earlier tree all = (eq_by_cmp_equiv key_cmp_total).symm key earlier ∙ all.0
-apart (e ∷ done) rest key earlier tree all = apart done rest key earlier tree all.1
+module _ {X : Type 0} where
+  -- no key before this one is equal to it
+  apart : (done rest : List (Key × X)) (key earlier : Key) (tree : X) → AllByRecursion (λ k. same_key earlier k ≡ false) (keys_of (done ++ (key, tree) ∷ rest))
+      → same_key key earlier ≡ false
+  apart [] rest key earlier tree all = (eq_by_cmp_equiv key_cmp_total).symm key earlier ∙ all.0
+  apart (e ∷ done) rest key earlier tree all = apart done rest key earlier tree all.1
 
--- where keys are distinct, the next entry goes last
-pub insert_entry-next : (done rest : List (Key × Tree)) (key : Key) (tree : Tree) → IsDistinct same_key (keys_of (done ++ (key, tree) ∷ rest))
-    → insert_entry same_key done key tree ≡ done ++ (key, tree) ∷ []
-unfolding IsDistinct
-insert_entry-next [] rest key tree distinct = refl
-insert_entry-next (e ∷ done) rest key tree distinct =
-    ap (λ same. cond same ((e.0, tree) ∷ done) (e ∷ insert_entry same_key done key tree)) (apart done rest key e.0 tree distinct.0)
-    ∙ ap (λ more. e ∷ more) (insert_entry-next done rest key tree distinct.1)
+  -- where keys are distinct, the next entry goes last
+  pub insert_entry-next : (done rest : List (Key × X)) (key : Key) (tree : X) → IsDistinct same_key (keys_of (done ++ (key, tree) ∷ rest))
+      → insert_entry same_key done key tree ≡ done ++ (key, tree) ∷ []
+  unfolding IsDistinct
+  insert_entry-next [] rest key tree distinct = refl
+  insert_entry-next (e ∷ done) rest key tree distinct =
+      ap (λ same. cond same ((e.0, tree) ∷ done) (e ∷ insert_entry same_key done key tree)) (apart done rest key e.0 tree distinct.0)
+      ∙ ap (λ more. e ∷ more) (insert_entry-next done rest key tree distinct.1)
 
--- a copy has these entries so far, and these are left
-pub record Copying (whole done left : List (Key × Tree)) : Type 0 where
-  pub all : done ++ left ≡ whole
-  pub distinct : IsDistinct same_key (keys_of (done ++ left))
+  -- a copy has these entries so far, and these are left
+  pub record Copying (whole done left : List (Key × X)) : Type 0 where
+    pub all : done ++ left ≡ whole
+    pub distinct : IsDistinct same_key (keys_of (done ++ left))
 
--- one entry more is copied
-pub Copying-more : (entries done rest now : List (Key × Tree)) (key copied : Key) (tree same : Tree) → Copying entries done ((key, tree) ∷ rest)
-    → copied ≡ key → same ≡ tree → now ≡ insert_entry same_key done copied same → Copying entries now rest
-Copying-more entries done rest now key copied tree same before equal_key equal_tree inserted =
-    let last : now ≡ done ++ (key, tree) ∷ [] =
-    inserted ∙ (λ i. insert_entry same_key done (equal_key i) (equal_tree i)) ∙ insert_entry-next done rest key tree before.distinct in
-    let whole : now ++ rest ≡ done ++ (key, tree) ∷ rest = ap (λ es. es ++ rest) last ∙ append_assoc done ((key, tree) ∷ []) rest in
-    record {
-      all = whole ∙ before.all;
-      distinct = subst (λ es. IsDistinct same_key (keys_of es)) (sym whole) before.distinct;
-    }
+  -- one entry more is copied
+  pub Copying-more : (entries done rest now : List (Key × X)) (key copied : Key) (tree same : X) → Copying entries done ((key, tree) ∷ rest)
+      → copied ≡ key → same ≡ tree → now ≡ insert_entry same_key done copied same → Copying entries now rest
+  Copying-more entries done rest now key copied tree same before equal_key equal_tree inserted =
+      let last : now ≡ done ++ (key, tree) ∷ [] =
+      inserted ∙ (λ i. insert_entry same_key done (equal_key i) (equal_tree i)) ∙ insert_entry-next done rest key tree before.distinct in
+      let whole : now ++ rest ≡ done ++ (key, tree) ∷ rest = ap (λ es. es ++ rest) last ∙ append_assoc done ((key, tree) ∷ []) rest in
+      record {
+        all = whole ∙ before.all;
+        distinct = subst (λ es. IsDistinct same_key (keys_of es)) (sym whole) before.distinct;
+      }
 
 -- where it is of the kind, a key is named by the bytes of its name
 pub same_key-of : (kind : Kind) (name : List ℕ) (k : Key) → is_of kind k ≡ true → bytes_eq name k.name ≡ same_key (key kind name) k

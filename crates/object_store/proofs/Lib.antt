@@ -5,6 +5,7 @@ pub mod KeysLemmas
 pub mod LateLemmas
 pub mod ListedLemmas
 pub mod ListingLemmas
+pub mod ListsLemmas
 pub mod MovesLemmas
 pub mod NamesLemmas
 pub mod ObjectsLemmas

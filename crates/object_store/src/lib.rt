@@ -6,6 +6,7 @@ mod items;
 mod key;
 mod late;
 mod listing;
+mod lists;
 mod objects;
 mod place;
 mod shelves;

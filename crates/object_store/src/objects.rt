@@ -1,4 +1,4 @@
-//! The objects of an organisation, by their keys.
+//! The objects of an organisation and their access lists, by their keys.
 ghost use Rattle.std.specs.Prelude.{◌≡◌, ◌+◌, ◌<◌, ◌≤◌, IfOk, None, OnOk, cond, option_copied, option_map, is_some, string_bytes};
 ghost use Rattle.std.specs.FinMap as finite;
 ghost use Rattle.std.specs.List.{filter_map};
@@ -16,8 +16,10 @@ use crate::items::{add_settled_names, find_item, find_settled, has_slash};
 use crate::key::Key;
 use crate::late::{Late, add_late_ids, add_late_names, copy_late, seek, seek_item};
 use crate::listing::in_order;
+use crate::lists::Lists;
 use crate::place::place;
 use crate::shelves::{Shelves, add_names, copy_shelves, make_room, put_on, take};
+use access_lists::Acl;
 use doc_tree::{Kind, NoMemory, Steps, Text, Texts, Tree};
 use indexmap::IndexMap;
 use std::alloc::Global;
@@ -26,8 +28,10 @@ use std::hash::RandomState;
 use std::marker::Model;
 use std::sync::ledger::Ledger;
 
-/// Objects by their keys, with room for a number of further ones. Contracts see the finite map of
-/// their documents, and the room.
+/// Objects and access lists by the objects' keys, with room for a number of further ones of each.
+/// Contracts see the finite map of the objects' documents, the finite map of the lists, and the room.
+/// What is done with objects leaves the lists, and the other way round: an object may have none, and
+/// containers have lists and no bodies.
 ///
 /// Each kind has a shelf, and so has each bag for its items, so that a listing looks at one shelf
 /// alone. What is put in waits beside the shelves, where there is room for it whatever its key, and
@@ -36,10 +40,11 @@ use std::sync::ledger::Ledger;
 pub struct Objects {
     late: Late,
     shelves: Shelves,
+    lists: Lists,
 }
 
 impl Model for Objects {
-    ghost use Rattle.object_store.specs.Objects.{Store, store_code};
+    ghost use Rattle.object_store.specs.Objects.{Store, store_code, smaller};
 
     ghost Value = { Store };
 
@@ -48,29 +53,62 @@ impl Model for Objects {
     ghost use Rattle.indexmap.specs.IndexMap.{spare};
     ghost use Rattle.object_store.specs.Kept.{objects_in};
 
-    ghost view = { λ m. record { objects = objects_in m.late m.shelves; spare = spare m.late } };
+    ghost view = { λ m. record { objects = objects_in m.late m.shelves; lists = m.lists.lists; spare = smaller (spare m.late) m.lists.spare } };
 }
 
 impl Objects {
-    /// No objects, and no room for any. It takes no memory.
+    /// No objects, no lists, and no room for any. It takes no memory.
     pub fn none(alloc: Global, hasher: RandomState) -> Objects
-        ensures { result.objects ≡ finite.empty }
+        ensures objects { result.objects ≡ finite.empty }
+        ensures lists { result.lists ≡ finite.empty }
     {
         Objects {
             late: IndexMap::with_hasher(alloc, hasher),
             shelves: IndexMap::with_hasher(alloc, hasher),
+            lists: Lists::none(alloc, hasher),
         }
     }
 
-    /// Makes room for at least `count` further objects.
+    /// Makes room for at least `count` further objects, and as many lists.
     pub fn reserve(&mut self, count: usize) -> Result<(), NoMemory>
         ensures objects { self.new.objects ≡ self.old.objects }
+        ensures lists { self.new.lists ≡ self.old.lists }
         ensures ok { OnOk result (count ≤ self.new.spare) }
         ensures spare { self.old.spare ≤ self.new.spare }
     {
         settle(&mut self.late, &mut self.shelves)?;
         self.late.reserve(count)?;
+        self.lists.reserve(count)?;
         Ok(())
+    }
+
+    /// The access list of this key, if there is one. It counts no step and takes no memory.
+    pub fn acl(&self, key: &Key) -> Option<&Acl>
+        ensures { option_copied result ≡ finite.get self.now.lists key.now }
+    {
+        self.lists.get(key)
+    }
+
+    /// Puts an access list in, and gives back the one that had its key, if there was one. It takes no
+    /// memory.
+    pub fn put_acl(&mut self, key: Key, acl: Acl) -> Option<Acl>
+        requires { 0 < self.old.spare }
+        ensures lists { self.new.lists ≡ finite.insert self.old.lists key acl }
+        ensures before { result ≡ finite.get self.old.lists key }
+        ensures objects { self.new.objects ≡ self.old.objects }
+        ensures spare { self.old.spare ≤ self.new.spare + 1 }
+    {
+        self.lists.put(key, acl)
+    }
+
+    /// Takes the access list of this key out, if there is one, and gives it back. It takes no memory.
+    pub fn take_acl(&mut self, key: &Key) -> Option<Acl>
+        ensures lists { self.new.lists ≡ finite.remove self.old.lists key.now }
+        ensures taken { result ≡ finite.get self.old.lists key.now }
+        ensures objects { self.new.objects ≡ self.old.objects }
+        ensures spare { self.old.spare ≤ self.new.spare }
+    {
+        self.lists.take(key)
     }
 
     /// Puts an object in, and gives back the one that had its key, if there was one. It takes no
@@ -79,6 +117,7 @@ impl Objects {
         requires { 0 < self.old.spare }
         ensures objects { self.new.objects ≡ finite.insert self.old.objects key (doc_of tree) }
         ensures before { option_map doc_of result ≡ finite.get self.old.objects key }
+        ensures lists { self.new.lists ≡ self.old.lists }
         ensures spare { self.old.spare ≤ self.new.spare + 1 }
     {
         let before = take_from(&mut self.late, &mut self.shelves, &key);
@@ -90,6 +129,7 @@ impl Objects {
     pub fn take_out(&mut self, key: &Key) -> Option<Tree>
         ensures objects { self.new.objects ≡ finite.remove self.old.objects key.now }
         ensures taken { option_map doc_of result ≡ finite.get self.old.objects key.now }
+        ensures lists { self.new.lists ≡ self.old.lists }
         ensures spare { self.old.spare ≤ self.new.spare }
     {
         take_from(&mut self.late, &mut self.shelves, key)
@@ -166,13 +206,15 @@ impl Objects {
         in_order(alloc, ids)
     }
 
-    /// Equal objects with memory of their own, and room for no more.
+    /// Equal objects and lists with memory of their own, and room for no more.
     pub fn copy(&self, alloc: Global) -> Result<Objects, NoMemory>
-        ensures { IfOk result (λ o. o.objects ≡ self.now.objects) }
+        ensures objects { IfOk result (λ o. o.objects ≡ self.now.objects) }
+        ensures lists { IfOk result (λ o. o.lists ≡ self.now.lists) }
     {
         Ok(Objects {
             late: copy_late(alloc, &self.late)?,
             shelves: copy_shelves(alloc, *self.late.hasher(), &self.shelves)?,
+            lists: self.lists.copy(alloc)?,
         })
     }
 }

@@ -1,1 +1,2 @@
+pub mod ConditionsLemmas
 pub mod ListingLemmas

@@ -2,8 +2,8 @@
 use Rattle.std.specs.Prelude.{Bool, true, false, Result, Ok, Err}
 use Rattle.doc_tree.specs.Doc.{Doc}
 use Rattle.doc_tree.specs.Tree.{doc_of}
-use Rattle.doc_tree.specs.declared.read.ReadFault.{ReadFault}
-use Rattle.doc_tree.specs.declared.read.ReadFault.TheVariants as fault
+use Rattle.org_core.specs.declared.requests.BadBody.{BadBody}
+use Rattle.org_core.specs.declared.requests.BadBody.TheVariants as bad
 use Rattle.org_core.specs.declared.requests.Body.{Body}
 use Rattle.org_core.specs.declared.requests.Body.TheVariants.{Empty, Doc as Read, Bad, TooLong}
 use Rattle.org_core.specs.declared.refusals.Refusal.{Refusal}
@@ -17,11 +17,10 @@ is_too_long (Bad fault) = false
 is_too_long TooLong = true
 
 -- the refusal of bytes that aren't read as JSON
-abbrev pub unreadable : ReadFault → Refusal
-unreadable fault.NotJson = NotJson
-unreadable fault.TooDeep = TooDeep
-unreadable fault.NotWhole = NotWhole
-unreadable fault.NoMemory = NotJson
+abbrev pub unreadable : BadBody → Refusal
+unreadable bad.NotJson = NotJson
+unreadable bad.TooDeep = TooDeep
+unreadable bad.NotWhole = NotWhole
 
 -- the document of a body, or why there is none
 abbrev pub document_in : Body → Result Doc Refusal

@@ -10,3 +10,5 @@ pub mod Contexts
 pub mod Needs
 pub mod Outcomes
 pub mod Rules
+pub mod Conditions
+pub mod Keeping

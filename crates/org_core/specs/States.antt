@@ -1,5 +1,5 @@
 -- The state of an organisation: none, or what it holds.
-use Rattle.std.specs.Prelude.{Bool, true, false, ℕ, List, Option, Some, None, refl, is_some}
+use Rattle.std.specs.Prelude.{◌≡◌, Bool, true, false, ℕ, List, Option, Some, None, refl, is_some}
 use Rattle.std.specs.declared.cmp.Ordering.{Ordering}
 use Rattle.std.specs.Ordering.{nat_cmp}
 use Rattle.std.specs.Cmp.Lexicographic.{slice_cmp}
@@ -44,6 +44,10 @@ pub record Kept : Type 0 where
   pub name : List ℕ
   pub there : Bool
   pub objects : Store
+
+-- who isn't there has no objects
+abbrev pub IsNobody : Bool → Store → Type 0
+IsNobody there store = there ≡ false → store.objects ≡ map.empty
 
 -- the state, for which room doesn't count
 abbrev pub state_from : Bool → Store → State

@@ -6,8 +6,8 @@ ghost use Rattle.doc_tree.specs.Tree.{doc_of};
 ghost use Rattle.org_core.specs.Bodies as spec;
 
 use crate::refusals::Refusal;
-use crate::requests::Body;
-use doc_tree::{ReadFault, Tree};
+use crate::requests::{BadBody, Body};
+use doc_tree::Tree;
 
 /// The tree of a body; or 400, by the fault of its text, also of a body that is missing; or 413.
 pub fn document_in(body: &Body) -> Result<&Tree, Refusal>
@@ -21,12 +21,12 @@ pub fn document_in(body: &Body) -> Result<&Tree, Refusal>
     }
 }
 
-fn unreadable(fault: ReadFault) -> Refusal
+fn unreadable(fault: BadBody) -> Refusal
     ensures { result ≡ spec.unreadable fault }
 {
     match fault {
-        ReadFault::TooDeep => Refusal::TooDeep,
-        ReadFault::NotWhole => Refusal::NotWhole,
-        ReadFault::NotJson | ReadFault::NoMemory => Refusal::NotJson,
+        BadBody::NotJson => Refusal::NotJson,
+        BadBody::TooDeep => Refusal::TooDeep,
+        BadBody::NotWhole => Refusal::NotWhole,
     }
 }

@@ -26,7 +26,7 @@ pub use needs::{Need, Needs, Permission};
 pub use org_state::OrgState;
 pub use refusals::{Refusal, Stop, out_of_memory};
 pub use replies::{Reply, created, joined, shown, shown_key, shown_paths};
-pub use requests::{Body, Parameter, Parameters, Place, Request};
+pub use requests::{BadBody, Body, Parameter, Parameters, Place, Request};
 pub use routes::{
     AccessRoute, CookbookRoute, DataRoute, ObjectsRoute, OrganisationRoute, PolicyRoute, Route,
     SearchRoute,

@@ -6,7 +6,8 @@ ghost use Rattle.doc_tree.specs.Valid.{InOrder};
 ghost use Rattle.object_store.specs.Items.{ids_in, item_name};
 ghost use Rattle.object_store.specs.Objects.{names_in};
 ghost use Rattle.doc_tree.specs.declared.kind.Kind.TheVariants as kinds;
-ghost use Rattle.org_core.specs.States.{state_in, objects_of, object_in, has_object, room_in};
+ghost use Rattle.org_core.specs.Conditions.{MeetsConditions};
+ghost use Rattle.org_core.specs.States.{state_in, state_from, objects_of, object_in, has_object, room_in, IsNobody};
 ghost use Rattle.org_core.specs.Moves.{after_move, after_moves, is_put, puts_in};
 
 use crate::moves::{Move, Moves};
@@ -18,7 +19,8 @@ use std::marker::Model;
 use std::sync::ledger::Ledger;
 
 /// One organisation: its name, whether it is there, and what it holds. Contracts see its name, its
-/// state, `state_in`, and the room for further objects, `room_in`.
+/// state, `state_in`, and the room for further objects, `room_in`. Its objects meet the conditions of
+/// every organisation's (`MeetsConditions`), which is what its type says.
 #[derive(Drop)]
 pub struct OrgState {
     org: Text,
@@ -27,9 +29,9 @@ pub struct OrgState {
 }
 
 impl Model for OrgState {
-    ghost use Rattle.std.specs.Prelude.{◌≡◌, false};
-    ghost use Rattle.std.specs.FinMap as finite;
-    ghost use Rattle.org_core.specs.States.{Kept, kept_code};
+    ghost use Rattle.org_core.specs.States.{Kept, kept_code, IsNobody};
+    ghost use Rattle.org_core.specs.States as states;
+    ghost use Rattle.org_core.specs.Conditions.{MeetsConditions};
 
     ghost Value = { Kept };
 
@@ -37,8 +39,8 @@ impl Model for OrgState {
 
     ghost view = { λ s. record { name = s.org; there = s.there; objects = s.objects } };
 
-    // One that isn't there has no objects.
-    ghost invariant = { λ s. s.there ≡ false → s.objects.objects ≡ finite.empty };
+    // One that isn't there has no objects, and the objects of one that is meet the conditions.
+    ghost invariant = { λ s. IsNobody s.there s.objects × MeetsConditions (states.state_from s.there s.objects) };
 }
 
 impl OrgState {
@@ -135,34 +137,54 @@ impl OrgState {
         self.objects.reserve(count)
     }
 
-    /// Makes moves for which there is room, in order. It takes no memory.
+    /// That the state meets the conditions of every organisation's, which its type says. It does nothing.
+    pub fn meets_conditions(&self)
+        ensures { MeetsConditions (state_in self.now) }
+    {
+        let _ = &self.there;
+    }
+
+    /// Makes moves for which there is room, in order. They lead to a state that meets the conditions.
+    /// It takes no memory.
     pub fn make_all(&mut self, moves: Moves)
-        requires { puts_in moves ≤ room_in self.old }
+        requires room { puts_in moves ≤ room_in self.old }
+        requires conditions { MeetsConditions (after_moves moves (state_in self.old)) }
         ensures name { self.new.name ≡ self.old.name }
         ensures state { state_in self.new ≡ after_moves moves (state_in self.old) }
     {
-        for one in moves.into_vec() {
-            self.make(one);
-        }
+        make_all(&mut self.there, &mut self.objects, moves);
     }
+}
 
-    fn make(&mut self, one: Move)
-        requires { cond (is_put one) 1 0 ≤ room_in self.old }
-        ensures name { self.new.name ≡ self.old.name }
-        ensures state { state_in self.new ≡ after_move one (state_in self.old) }
-        ensures room { room_in self.old ≤ room_in self.new + cond (is_put one) 1 0 }
-    {
-        match one {
-            Move::Open => self.there = true,
-            Move::Put(key, object) => {
-                if self.there {
-                    let _ = self.objects.put(key, object.into_tree());
-                }
+// Makes moves in order. Between two of them the conditions needn't hold.
+fn make_all(there: &mut bool, objects: &mut Objects, moves: Moves)
+    requires room { puts_in moves ≤ objects.old.spare }
+    requires nobody { IsNobody there.old objects.old }
+    ensures state { state_from there.new objects.new ≡ after_moves moves (state_from there.old objects.old) }
+    ensures nobody { IsNobody there.new objects.new }
+{
+    for one in moves.into_vec() {
+        make(there, objects, one);
+    }
+}
+
+fn make(there: &mut bool, objects: &mut Objects, one: Move)
+    requires room { cond (is_put one) 1 0 ≤ objects.old.spare }
+    requires nobody { IsNobody there.old objects.old }
+    ensures state { state_from there.new objects.new ≡ after_move one (state_from there.old objects.old) }
+    ensures room { objects.old.spare ≤ objects.new.spare + cond (is_put one) 1 0 }
+    ensures nobody { IsNobody there.new objects.new }
+{
+    match one {
+        Move::Open => *there = true,
+        Move::Put(key, object) => {
+            if *there {
+                let _ = objects.put(key, object.into_tree());
             }
-            Move::TakeOut(key) => {
-                if self.there {
-                    let _ = self.objects.take_out(&key);
-                }
+        }
+        Move::TakeOut(key) => {
+            if *there {
+                let _ = objects.take_out(&key);
             }
         }
     }

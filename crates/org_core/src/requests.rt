@@ -4,7 +4,7 @@ ghost use Rattle.std.specs.Prelude.{◌≡◌};
 ghost use Rattle.org_core.specs.Bodies as bodies;
 
 use crate::routes::Route;
-use doc_tree::{Listed, ReadFault, Text, Tree};
+use doc_tree::{Listed, Text, Tree};
 use route_table::{Availability, Verb};
 
 /// Where a request goes.
@@ -40,6 +40,17 @@ pub struct Parameter {
 /// Parameters, in the order of the query.
 pub type Parameters = Listed<Parameter>;
 
+/// Why no tree could be read from the bytes of a body. Where several hold, the first of these is told.
+#[derive(Clone, Copy, Debug, PartialEq, Eq)]
+pub enum BadBody {
+    /// They aren't one JSON value in UTF-8 (RFC 8259).
+    NotJson,
+    /// They nest more than 100 deep.
+    TooDeep,
+    /// A number is no whole number that an `i64` or a `u64` holds.
+    NotWhole,
+}
+
 /// The body of a request.
 #[derive(Drop)]
 pub enum Body {
@@ -48,8 +59,8 @@ pub enum Body {
     Empty,
     /// A tree that was read from JSON.
     Doc(Tree),
-    /// Bytes that no tree could be read from, with the first fault. It is never `NoMemory`.
-    Bad(ReadFault),
+    /// Bytes that no tree could be read from, with the first fault.
+    Bad(BadBody),
     /// More than 4,194,304 bytes, which were dropped.
     TooLong,
 }

@@ -1,14 +1,16 @@
 //! What no clause says: the printed replies, and that the calls succeed with ample memory.
 
+ghost use Rattle.std.specs.Prelude.{◌≡◌, None};
+ghost use Rattle.org_core.specs.States.{state_in};
+
 use crate::bodies::document_in;
 use crate::moves::{Move, Moves, puts_in};
 use crate::needs::Permission;
 use crate::org_state::OrgState;
 use crate::refusals::{Refusal, out_of_memory};
 use crate::replies::Reply;
-use crate::requests::Body;
-use crate::stored::Stored;
-use doc_tree::{Kind, NoMemory, ReadFault, Text, Tree};
+use crate::requests::{BadBody, Body};
+use doc_tree::{Kind, NoMemory, Text};
 use object_store::Key;
 use std::alloc::Global;
 use std::hash::RandomState;
@@ -81,14 +83,6 @@ fn add_state(alloc: Global, text: &mut String, state: &OrgState) -> Result<(), N
     Ok(())
 }
 
-fn make(alloc: Global, state: &mut OrgState, one: Move) -> Result<(), NoMemory> {
-    let mut moves = Moves::new(alloc);
-    moves.push(one)?;
-    state.reserve(puts_in(&moves))?;
-    state.make_all(moves);
-    Ok(())
-}
-
 fn web1(alloc: Global) -> Result<Key, NoMemory> {
     Ok(Key {
         kind: Kind::Node,
@@ -96,25 +90,29 @@ fn web1(alloc: Global) -> Result<Key, NoMemory> {
     })
 }
 
-fn live(alloc: Global, state: &mut OrgState, text: &mut String) -> Result<(), NoMemory> {
-    add_state(alloc, text, state)?;
-    make(alloc, state, Move::Open)?;
-    let node = web1(alloc)?;
-    make(alloc, state, Move::Put(node, Stored::of(Tree::Null)))?;
-    add_state(alloc, text, &state.copy(alloc)?)?;
-    let node = web1(alloc)?;
-    make(alloc, state, Move::TakeOut(node))?;
-    add_state(alloc, text, state)
+/// A move that changes nothing of an organisation that isn't there.
+fn forget(alloc: Global, state: &mut OrgState) -> Result<(), NoMemory>
+    requires { state_in state.old ≡ None }
+    ensures { state_in state.new ≡ None }
+{
+    let mut moves = Moves::new(alloc);
+    moves.push(Move::TakeOut(web1(alloc)?))?;
+    state.reserve(puts_in(&moves))?;
+    state.make_all(moves);
+    Ok(())
 }
 
 #[test]
-fn an_organisation_opens_keeps_and_forgets(rt: HostRuntime) -> Result<(), Fail> {
+fn a_state_is_told_changed_and_copied(rt: HostRuntime) -> Result<(), Fail> {
     let alloc = rt.alloc();
     let hasher = RandomState::new(&rt)?;
     let mut state = OrgState::none(alloc, hasher, Text::from_str(alloc, "acme")?);
     let mut text = String::new(alloc);
-    live(alloc, &mut state, &mut text)?;
-    assert_eq!(rt; text.as_str(), "false false 0\ntrue true 1\ntrue false 0\n");
-    assert!(rt; document_in(&Body::Bad(ReadFault::TooDeep)).is_err());
+    add_state(alloc, &mut text, &state)?;
+    forget(alloc, &mut state)?;
+    state.meets_conditions();
+    add_state(alloc, &mut text, &state.copy(alloc)?)?;
+    assert_eq!(rt; text.as_str(), "false false 0\nfalse false 0\n");
+    assert!(rt; document_in(&Body::Bad(BadBody::TooDeep)).is_err());
     Ok(())
 }

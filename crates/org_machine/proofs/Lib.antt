@@ -1,2 +1,5 @@
+pub mod AnsweredLemmas
 pub mod Going
+pub mod KeepingLemmas
+pub mod OutsideLemmas
 pub mod PreparedLemmas

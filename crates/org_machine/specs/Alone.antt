@@ -62,9 +62,9 @@ States = List ℕ → State
 abbrev pub nobody : States
 nobody name = None
 
--- what a request of no organisation is answered: the same in every state, or the names of all organisations
+-- what a request of no organisation is answered: as the step says in every state, or the names of all organisations
 pub data Outside : Type 0 where
-  says : Reply → Outside
+  steps : Request → Outside
   lists : Outside
 
 -- a GET of `/organizations` by the operator that nothing refuses asks for the listing of organisations
@@ -79,9 +79,9 @@ is_listing_at NoMemory request = false
 abbrev pub is_listing : Request → Bool
 is_listing request = is_listing_at request.place request
 
--- the listing tells who is there, and any other request of no organisation is answered the same in every state
+-- the listing tells who is there, and any other request of no organisation is answered as the step says, whatever the state
 abbrev pub outside : Request → Outside
-outside request = cond (is_listing request) lists (says (step request None).reply)
+outside request = cond (is_listing request) lists (steps request)
 
 -- the listing of these organisations
 abbrev pub listing : List (List ℕ) → Reply
@@ -94,9 +94,9 @@ pub record Lists (states : States) (reply : Reply) : Type 0 where
   pub there : (name : List ℕ) → list_any (bytes_eq name) names ≡ is_some (states name)
   pub told : reply ≡ listing names
 
--- the reply is the one that is due in these states
+-- the reply is the one that is due in these states: of a step, the same in every state
 abbrev pub IsDue : States → Outside → Reply → Type 0
-IsDue states (says due) reply = reply ≡ due
+IsDue states (steps request) reply = (state : State) → reply ≡ (step request state).reply
 IsDue states lists reply = Lists states reply
 
 -- a request of no organisation is answered in these states, by its mark

@@ -1,9 +1,12 @@
 //! Laws of the definitions, which need no code.
 
-ghost use Rattle.std.specs.Prelude.{◌≡◌, ℕ, List, [], map};
+ghost use Rattle.std.specs.Prelude.{◌≡◌, ℕ, List, [], None, map};
 ghost use Rattle.org_core.specs.declared.requests.Request.{Request};
 ghost use Rattle.org_machine.specs.Alone.{Alone, Exchange, States, asked_in, own};
 ghost use Rattle.org_machine.specs.Marks.{mark_of, served};
+ghost use Rattle.org_core.specs.Conditions.{MeetsConditions};
+ghost use Rattle.org_core.specs.Moves.{after_moves};
+ghost use Rattle.org_core.specs.Requests.{org_of};
 ghost use Rattle.org_core.specs.States.{State};
 ghost use Rattle.org_machine.specs.Serving.{IsGood};
 ghost use Rattle.org_machine.specs.Steps.{step};
@@ -30,4 +33,18 @@ pub fn steps_are_served()
 #[tactic(auto, using(crate::proofs::PreparedLemmas::no_moves))]
 pub fn refusals_change_nothing()
     ensures { (request : Request) (state : State) → ¬ (IsGood (step request state).reply.status) → (step request state).moves ≡ [] }
+{}
+
+/// A request of no organisation is decided in the same way in every state, and changes none. So nobody
+/// learns of an organisation by it; what the listing is answered is said apart.
+#[tactic(auto, using(crate::proofs::OutsideLemmas::same_step, crate::proofs::OutsideLemmas::no_step))]
+pub fn the_same_in_every_state()
+    ensures step { (request : Request) → org_of request ≡ None → (one other : State) → step request one ≡ step request other }
+    ensures moves { (request : Request) → org_of request ≡ None → (state : State) → (step request state).moves ≡ [] }
+{}
+
+/// Each step leads from a state that meets the conditions of every organisation's objects to one that
+/// meets them. One that isn't there meets them.
+pub fn steps_keep_conditions()
+    ensures { (request : Request) (state : State) → MeetsConditions state → MeetsConditions (after_moves (step request state).moves state) }
 {}

@@ -12,11 +12,14 @@ mod steps;
 mod tests;
 
 pub use heads::head_refusal;
-pub use laws::{refusals_change_nothing, steps_are_served, two_worlds};
+pub use laws::{
+    refusals_change_nothing, steps_are_served, steps_keep_conditions, the_same_in_every_state,
+    two_worlds,
+};
 pub use org_core::{
-    AccessRoute, Body, Collection, CookbookRoute, DataRoute, Move, Moves, ObjectsRoute, OrgState,
-    OrganisationRoute, Parameter, Parameters, Place, PolicyRoute, Prepared, Refusal, Reply,
-    Request, Route, SearchRoute, out_of_memory,
+    AccessRoute, BadBody, Body, Collection, CookbookRoute, DataRoute, Move, Moves, ObjectsRoute,
+    OrgState, OrganisationRoute, Parameter, Parameters, Place, PolicyRoute, Prepared, Refusal,
+    Reply, Request, Route, SearchRoute, out_of_memory,
 };
 pub use outside::{is_listing, listing, serve_outside};
 pub use serving::{prepare, serve, settle};

@@ -2,6 +2,7 @@
 //! the moves need, and `settle` makes the moves, which can't fail.
 
 ghost use Rattle.std.specs.Prelude.{◌≡◌, ◌⊎◌, ◌≤◌, [], Some};
+ghost use Rattle.org_core.specs.Conditions.{MeetsConditions};
 ghost use Rattle.org_core.specs.Moves.{after_moves, puts_in};
 ghost use Rattle.org_core.specs.Outcomes.{Finds, Looked, does_by};
 ghost use Rattle.org_core.specs.Refusals as refusals;
@@ -38,8 +39,11 @@ pub fn prepare<L: Ledger>(
     ensures moves { after_moves result.moves (state_in state.old) ≡ after (mark_of result.reply) request.now (state_in state.old) }
     ensures made { ComesWith result.reply.status result.moves }
     ensures room { puts_in result.moves ≤ room_in state.new }
+    // The moves lead to a state that meets the conditions of every organisation's objects.
+    ensures conditions { MeetsConditions (after_moves result.moves (state_in state.new)) }
     ensures looks { Looks result.reply request.now (state_in state.old) steps.old steps.new }
 {
+    state.meets_conditions();
     prepare_step(alloc, state, request, steps)
 }
 
@@ -138,7 +142,8 @@ pub(crate) fn told(alloc: Global, refusal: Refusal) -> Reply
 /// Makes the moves of a request that was prepared for this state, and hands on its reply. It takes
 /// no memory and can't fail.
 pub fn settle(state: &mut OrgState, prepared: Prepared) -> Reply
-    requires { puts_in prepared.moves ≤ room_in state.old }
+    requires room { puts_in prepared.moves ≤ room_in state.old }
+    requires conditions { MeetsConditions (after_moves prepared.moves (state_in state.old)) }
     ensures reply { result ≡ prepared.reply }
     ensures name { state.new.name ≡ state.old.name }
     ensures state { state_in state.new ≡ after_moves prepared.moves (state_in state.old) }

@@ -1,7 +1,7 @@
 -- The loop begins with nothing answered, and goes on by one message a turn.
 use Rattle.std.proofs.Common.{◌<◌, length, arith, rules}
 use Rattle.http_wire.specs.Message.{print_message}
-use Rattle.chefsite.proofs.TurnLemmas.{at_first, after_emptying, one_turn, last_turn}
+use Rattle.chefsite.proofs.TurnLemmas.{at_first, after_emptying, cut_emptying, one_turn, last_turn}
 use Rattle.http_wire.proofs.StreamLemmas.{print_message-some}
 use Rattle.chefsite.proofs.answering.answer_all.Goals as goal
 
@@ -35,3 +35,7 @@ returns-in-Err-answer_next-clause-end g c =
     last_turn c.in-Err-answer_next.end _ _ _ _ _ _ _ _ _ _
     (after_emptying _ _ _ _ _ _ _ _ _ c.messages.invariant.so_far c.in-Ok.ensures.ok)
     c.in-Err-answer_next.ensures.end
+
+pub returns-in-Err-clause-end : goal.returns-in-Err-clause-end
+returns-in-Err-clause-end g c =
+    (cut_emptying _ _ _ _ _ _ _ _ c.messages.invariant.so_far c.in-Err.ensures.failed, c.in-Err.ensures.dropped)

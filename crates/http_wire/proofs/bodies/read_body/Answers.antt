@@ -2,6 +2,7 @@ use Rattle.std.proofs.Common.{◌≤◌, ◌++◌, ℕ, List, length, take, sym,
 use Rattle.std.specs.Io.KnownBytes.{prepend_known}
 use Rattle.http_wire.specs.Bodies.{IsBody}
 use Rattle.http_wire.proofs.BodyLemmas.{piece_counted, piece_taken}
+use Rattle.outside_core.proofs.SinkLemmas.{OnErr-always}
 use Rattle.http_wire.proofs.bodies.read_body.Goals as goal
 
 -- one more piece of the body was kept
@@ -26,3 +27,10 @@ more-preserved g c =
       aside = c.in_ok-has_more.ensures.aside ∙ c.more.invariant.aside;
       count = omega (arith, c.more.invariant.count, c.in_ok-has_more.ensures.cause.later);
     }
+
+-- what was taken of the body is gone
+pub returns-in_err-has_more-clause-lost : goal.returns-in_err-has_more-clause-lost
+returns-in_err-has_more-clause-lost g c =
+    let before = c.more.invariant.so_far in
+    OnErr-always c.from_residual.result
+    (before.0, before.3 ∙ ap (prepend_known before.0) (sym c.in_err-has_more.ensures.kept))

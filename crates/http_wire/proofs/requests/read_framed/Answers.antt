@@ -10,6 +10,7 @@ use Rattle.http_wire.specs.Room.{stream}
 use Rattle.http_wire.proofs.FaultLemmas.{OnReadFault-passed, OnNotAMessage-passed}
 use Rattle.http_wire.proofs.FrameLemmas.{framed_takes, framed_place, framed_cut, framed_none}
 use Rattle.http_wire.proofs.RoomLemmas.{prepend_known-append}
+use Rattle.outside_core.proofs.SinkLemmas.{OnErr-always}
 use Rattle.http_wire.proofs.requests.read_framed.Goals as goal
 
 -- the stream ended within the body
@@ -60,3 +61,7 @@ returns-clause-message g c =
       framed_takes room.place frame.size frame.spans.len room.held head.0 _ body.0 _ _ head.1.reads head.1.len head.2 body.1 body.3,
       c.in_ok-body.ensures.place ∙ framed_place room.place frame.size frame.spans.len head.0 body.0 head.1.len body.1,
     )
+
+-- what was lost of the message is gone
+pub returns-in_err-body-clause-lost : goal.returns-in_err-body-clause-lost
+returns-in_err-body-clause-lost g c = OnErr-always c.from_residual.result c.in_err-body.ensures.lost

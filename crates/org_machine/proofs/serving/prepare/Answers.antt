@@ -1,5 +1,10 @@
 -- What was prepared is the step's, or tells of want of memory.
 use Rattle.org_core.specs.States.{state_in}
+use Rattle.std.proofs.Common.{sym, ap, subst, ◌∙◌}
+use Rattle.org_core.specs.Conditions.{MeetsConditions}
+use Rattle.org_core.specs.Moves.{after_moves}
+use Rattle.org_machine.specs.Marks.{mark_of}
+use Rattle.org_machine.proofs.KeepingLemmas.{after_keeps}
 use Rattle.org_machine.proofs.PreparedLemmas.{IsPrepared, is_prepared}
 use Rattle.org_machine.proofs.serving.prepare.Goals as goal
 
@@ -20,3 +25,9 @@ returns-clause-room g c = (is_prepared c.prepare_step.result c.args.request.now 
 
 pub returns-clause-looks : goal.returns-clause-looks
 returns-clause-looks g c = (is_prepared c.prepare_step.result c.args.request.now (state_in c.args.state.now) c.prepare_step.new.state _ _ c.prepare_step.ensures.done).looks
+
+pub returns-clause-conditions : goal.returns-clause-conditions
+returns-clause-conditions g c =
+    let done = is_prepared c.prepare_step.result c.args.request.now (state_in c.args.state.now) c.prepare_step.new.state _ _ c.prepare_step.ensures.done in
+    subst MeetsConditions (sym (ap (after_moves c.prepare_step.result.moves) c.prepare_step.ensures.same ∙ done.moves))
+    (after_keeps (mark_of c.prepare_step.result.reply) c.args.request.now (state_in c.args.state.now) c.meets_conditions.ensures)

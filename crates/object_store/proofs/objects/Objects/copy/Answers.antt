@@ -8,8 +8,8 @@ use Rattle.object_store.proofs.ViewLemmas.{objects_in-same}
 use Rattle.object_store.proofs.objects.Objects.copy.Goals as goal
 
 -- what is found is copied, of those that came late and on the shelves
-pub returns : goal.returns
-returns c =
+pub returns-clause-objects : goal.returns-clause-objects
+returns-clause-objects c =
     let late = c.self.inside.late in
     let shelves = c.self.inside.shelves in
     objects_in-same late c.in_ok-copy_late.field-0 shelves c.in_ok-copy_shelves.field-0

@@ -7,7 +7,7 @@ use Rattle.indexmap.specs.IndexMap.{get, spare}
 use Rattle.doc_tree.specs.declared.kind.Kind.TheVariants as kind
 use Rattle.object_store.specs.Items.{item_name, ids_in}
 use Rattle.object_store.specs.Keys.{key, same_key}
-use Rattle.object_store.specs.Objects.{Store}
+use Rattle.object_store.specs.Objects.{Store, smaller}
 use Rattle.object_store.specs.Kept.{has, on_shelf, settled, objects_in}
 use Rattle.object_store.proofs.ListedLemmas.{gathered, ids-listed, told}
 use Rattle.object_store.proofs.PlacesLemmas.{item-shelf, item-name}
@@ -20,7 +20,7 @@ returns-clause-value c =
     let shelves = c.self.inside.shelves in
     let bag = c.args.bag.now in
     let none = sym c.has_slash.ensures ∙ c.if-has_slash.false in
-    told c.in_order.result (λ (v : Store). ids_in bag v.objects) (record { objects = objects_in late shelves; spare = spare late }) c.args.self.now c.self.view_is
+    told c.in_order.result (λ (v : Store). ids_in bag v.objects) (record { objects = objects_in late shelves; lists = c.self.inside.lists.lists; spare = smaller (spare late) c.self.inside.lists.spare }) c.args.self.now c.self.view_is
     (ids-listed c.in_order.result bag late shelves c.add_names.new.names c.in_order.ensures.names c.in_order.ensures.order
     (λ id. gathered (has c.new-ids.result id) (has c.add_late_ids.new.ids id) (has c.add_names.new.names id)
     (get same_key late (key kind.Item (item_name bag id))) (settled shelves (key kind.Item (item_name bag id)))

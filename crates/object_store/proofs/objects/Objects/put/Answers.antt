@@ -2,8 +2,9 @@ use Rattle.std.proofs.Common.{◌<◌, option_map, sym, ap, subst, ◌∙◌, ar
 use Rattle.std.specs.FinMap as finite
 use Rattle.doc_tree.specs.Tree.{doc_of}
 use Rattle.indexmap.specs.IndexMap.{spare}
-use Rattle.object_store.specs.Objects.{Store}
+use Rattle.object_store.specs.Objects.{Store, smaller}
 use Rattle.object_store.proofs.ObjectsLemmas.{of_ok}
+use Rattle.object_store.proofs.ListsLemmas.{room_left}
 use Rattle.object_store.proofs.MovesLemmas.{found-put}
 use Rattle.object_store.proofs.ViewLemmas.{objects_in-insert, get-objects_in}
 use Rattle.object_store.proofs.objects.Objects.put.Goals as goal
@@ -13,7 +14,8 @@ pub returns-clause-objects : goal.returns-clause-objects
 returns-clause-objects c =
     let late = c.self.inside.late in
     let shelves = c.self.inside.shelves in
-    let had : 0 < spare late = subst (λ (v : Store). 0 < v.spare) (sym c.self.view_is) c.requires in
+    let both : 0 < smaller (spare late) c.self.inside.lists.spare = subst (λ (v : Store). 0 < v.spare) (sym c.self.view_is) c.requires in
+    let had : 0 < spare late = room_left (spare late) c.self.inside.lists.spare both in
     let room : 0 < spare c.take_from-before.new.late = omega (arith, had, c.take_from-before.ensures.spare) in
     objects_in-insert late c.insert.new.self shelves c.take_from-before.new.shelves c.args.key c.args.tree
     (found-put late c.take_from-before.new.late c.insert.new.self shelves c.take_from-before.new.shelves c.args.key c.args.tree

@@ -25,3 +25,9 @@ returns-clause-objects c =
     objects_in-same c.self.inside.late c.reserve.new.self c.self.inside.shelves c.settle.new.shelves
     (λ k. ap (λ es. option_or (lookup (same_key k) es) (settled c.settle.new.shelves k)) c.reserve.ensures.entries ∙ c.settle.ensures.same k)
     ∙ ap (λ (v : Store). v.objects) c.self.view_is
+
+pub returns-in_err-reserve-2-clause-objects : goal.returns-in_err-reserve-2-clause-objects
+returns-in_err-reserve-2-clause-objects c =
+    objects_in-same c.self.inside.late c.reserve.new.self c.self.inside.shelves c.settle.new.shelves
+    (λ k. ap (λ es. option_or (lookup (same_key k) es) (settled c.settle.new.shelves k)) c.reserve.ensures.entries ∙ c.settle.ensures.same k)
+    ∙ ap (λ (v : Store). v.objects) c.self.view_is

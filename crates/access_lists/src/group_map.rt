@@ -1,0 +1,170 @@
+//! The groups of an organisation, by their names.
+ghost use Rattle.std.specs.Prelude.{◌≡◌, ◌+◌, ◌<◌, ◌≤◌, IfOk, OnOk, IsTrue, is_some};
+ghost use Rattle.std.specs.FinMap as finite;
+ghost use Rattle.indexmap.specs.IndexMap.{spare};
+ghost use Rattle.access_lists.specs.Belonging.{is_member};
+ghost use Rattle.access_lists.specs.Changes.{changed, joined, left};
+ghost use Rattle.access_lists.specs.Lists.{with_rows};
+ghost use Rattle.access_lists.specs.Rooms.{groups_seen, rooms_seen, room_of, OthersKeepRoom};
+
+use crate::group::Group;
+use crate::lists::GroupRow;
+use crate::member_kind::MemberKind;
+use doc_tree::{NoMemory, Text};
+use indexmap::IndexMap;
+use std::alloc::Global;
+use std::hash::RandomState;
+use std::marker::Model;
+
+/// Groups by the hashes of their names.
+type Hashed = IndexMap<Text, Group, RandomState>;
+
+/// Groups by their names, with room for a number of further ones. Contracts see the finite map of
+/// their members, the room in each and the room for more of them.
+#[derive(Drop)]
+pub(crate) struct GroupMap {
+    items: Hashed,
+}
+
+impl Model for GroupMap {
+    ghost use Rattle.access_lists.specs.Rooms.{KeptGroups, kept_groups_code};
+
+    ghost Value = { KeptGroups };
+
+    ghost coded = { kept_groups_code };
+
+    ghost use Rattle.indexmap.specs.IndexMap.{spare};
+    ghost use Rattle.access_lists.specs.Rooms.{groups_seen, rooms_seen};
+
+    ghost view = { λ m. record { groups = groups_seen m.items.entries; rooms = rooms_seen m.items.entries; spare = spare m.items } };
+}
+
+impl GroupMap {
+    /// The groups of these rows.
+    pub(crate) fn of(
+        alloc: Global,
+        hasher: RandomState,
+        rows: &[GroupRow],
+    ) -> Result<GroupMap, NoMemory>
+        ensures { IfOk result (λ m. m.groups ≡ with_rows finite.empty rows.now) }
+    {
+        let mut items = IndexMap::with_capacity_and_hasher(alloc, rows.len(), hasher)?;
+        for row in rows {
+            let group = Group::of(alloc, hasher, row)?;
+            add(&mut items, row.name.as_text().copy(alloc)?, group)?;
+        }
+        Ok(GroupMap { items })
+    }
+
+    /// Whether a group is there.
+    pub(crate) fn has(&self, name: &Text) -> bool
+        ensures { result ≡ is_some (finite.get self.now.groups name.now) }
+    {
+        self.items.contains_key(name)
+    }
+
+    /// Whether a caller is a user or client of a group.
+    pub(crate) fn is_member(&self, caller: &Text, name: &Text) -> bool
+        ensures { result ≡ is_member caller.now (finite.get self.now.groups name.now) }
+    {
+        match self.items.get(name) {
+            Some(group) => group.is_member(caller),
+            None => false,
+        }
+    }
+
+    /// Makes room for at least `count` further groups.
+    pub(crate) fn reserve(&mut self, count: usize) -> Result<(), NoMemory>
+        ensures groups { self.new.groups ≡ self.old.groups }
+        ensures rooms { self.new.rooms ≡ self.old.rooms }
+        ensures ok { OnOk result (count ≤ self.new.spare) }
+        ensures spare { self.old.spare ≤ self.new.spare }
+    {
+        self.items.reserve(count)?;
+        Ok(())
+    }
+
+    /// Makes room in a group for at least `count` further members of each kind.
+    pub(crate) fn reserve_in(&mut self, name: &Text, count: usize) -> Result<(), NoMemory>
+        ensures groups { self.new.groups ≡ self.old.groups }
+        ensures ok { OnOk result (IsTrue (is_some (finite.get self.old.groups name.now)) → count ≤ room_of self.new.rooms name.now) }
+        ensures room { room_of self.old.rooms name.now ≤ room_of self.new.rooms name.now }
+        ensures others { OthersKeepRoom name.now self.old.rooms self.new.rooms }
+        ensures spare { self.new.spare ≡ self.old.spare }
+    {
+        let Some(group) = self.items.get_mut(name) else {
+            return Ok(());
+        };
+        group.reserve(count)
+    }
+
+    /// Puts a member into a group. It takes no memory.
+    pub(crate) fn join(&mut self, name: &Text, kind: MemberKind, member: Text)
+        requires { 0 < room_of self.old.rooms name.now }
+        ensures groups { self.new.groups ≡ changed name.now (joined kind member) self.old.groups }
+        ensures room { room_of self.old.rooms name.now ≤ room_of self.new.rooms name.now + 1 }
+        ensures others { OthersKeepRoom name.now self.old.rooms self.new.rooms }
+        ensures spare { self.new.spare ≡ self.old.spare }
+    {
+        let Some(group) = self.items.get_mut(name) else {
+            return;
+        };
+        group.join(kind, member);
+    }
+
+    /// Takes a member out of a group, if both are there. It takes no memory.
+    pub(crate) fn leave(&mut self, name: &Text, kind: MemberKind, member: &Text)
+        ensures groups { self.new.groups ≡ changed name.now (left kind member.now) self.old.groups }
+        ensures room { room_of self.old.rooms name.now ≤ room_of self.new.rooms name.now }
+        ensures others { OthersKeepRoom name.now self.old.rooms self.new.rooms }
+        ensures spare { self.new.spare ≡ self.old.spare }
+    {
+        let Some(group) = self.items.get_mut(name) else {
+            return;
+        };
+        group.leave(kind, member);
+    }
+
+    /// Puts a group in, in place of one of its name. It takes no memory.
+    pub(crate) fn put(&mut self, name: Text, group: Group)
+        requires { 0 < self.old.spare }
+        ensures groups { self.new.groups ≡ finite.insert self.old.groups name group.members }
+        ensures rooms { self.new.rooms ≡ finite.insert self.old.rooms name group.spare }
+        ensures spare { self.old.spare ≤ self.new.spare + 1 }
+    {
+        put(&mut self.items, name, group);
+    }
+
+    /// Takes a group out, if it is there. It takes no memory.
+    pub(crate) fn remove(&mut self, name: &Text)
+        ensures groups { self.new.groups ≡ finite.remove self.old.groups name.now }
+        ensures rooms { self.new.rooms ≡ finite.remove self.old.rooms name.now }
+        ensures spare { self.old.spare ≤ self.new.spare }
+    {
+        take(&mut self.items, name);
+    }
+}
+
+fn add(items: &mut Hashed, name: Text, group: Group) -> Result<(), NoMemory>
+    ensures { OnOk result (groups_seen items.new.entries ≡ finite.insert (groups_seen items.old.entries) name group.members) }
+{
+    items.insert(name, group)?;
+    Ok(())
+}
+
+fn put(items: &mut Hashed, name: Text, group: Group)
+    requires { 0 < spare items.old }
+    ensures groups { groups_seen items.new.entries ≡ finite.insert (groups_seen items.old.entries) name group.members }
+    ensures rooms { rooms_seen items.new.entries ≡ finite.insert (rooms_seen items.old.entries) name group.spare }
+    ensures spare { spare items.old ≤ spare items.new + 1 }
+{
+    let _ = items.insert(name, group);
+}
+
+fn take(items: &mut Hashed, name: &Text)
+    ensures groups { groups_seen items.new.entries ≡ finite.remove (groups_seen items.old.entries) name.now }
+    ensures rooms { rooms_seen items.new.entries ≡ finite.remove (rooms_seen items.old.entries) name.now }
+    ensures spare { spare items.old ≤ spare items.new }
+{
+    let _ = items.swap_remove(name);
+}

@@ -1,0 +1,243 @@
+//! The users, clients and groups of an organisation.
+ghost use Rattle.std.specs.Prelude.{◌≡◌, ◌+◌, ◌<◌, ◌≤◌, ◌↔◌, ◌||◌, Any, IfOk, IsTrue, OnOk, not, position, is_some, true, bytes_eq};
+ghost use Rattle.std.specs.FinMap as finite;
+ghost use Rattle.access_lists.specs.Belonging.{Belongs};
+ghost use Rattle.access_lists.specs.Changes.{changed, joined, left, with_user, without_user, with_client, without_client, with_groups};
+ghost use Rattle.access_lists.specs.Lists.{membership_in};
+ghost use Rattle.access_lists.specs.Permitted.{operator};
+ghost use Rattle.access_lists.specs.Rooms.{room_of, OthersKeepRoom};
+ghost use Rattle.access_lists.specs.Strangers as spec;
+
+use crate::acl::Entry;
+use crate::group::Group;
+use crate::group_map::GroupMap;
+use crate::lists::GroupLists;
+use crate::member_kind::MemberKind;
+use crate::name_set::NameSet;
+use doc_tree::{NoMemory, Text};
+use std::alloc::Global;
+use std::hash::RandomState;
+use std::marker::Model;
+
+/// A name that an organisation doesn't have: its place in its list of an entry, counted from 0.
+#[derive(Clone, Copy, Debug, PartialEq, Eq, Drop)]
+pub enum Stranger {
+    /// Of an actor.
+    Actor(usize),
+    /// Of a group.
+    Group(usize),
+}
+
+/// The users and clients of an organisation and its groups with their members, by the hashes of their
+/// names, with room for a number of further ones. Contracts see finite sets and a finite map, the room
+/// in each group, and the room for more users, clients and groups.
+///
+/// What changes it takes no memory where room was made before: `reserve` for users, clients and groups,
+/// and `reserve_in` for the members of a group.
+#[derive(Drop)]
+pub struct Groups {
+    users: NameSet,
+    clients: NameSet,
+    groups: GroupMap,
+}
+
+impl Model for Groups {
+    ghost use Rattle.access_lists.specs.Rooms.{Kept, kept_code, smaller};
+
+    ghost Value = { Kept };
+
+    ghost coded = { kept_code };
+
+    ghost view = { λ g. record {
+      membership = record { users = g.users.names; clients = g.clients.names; groups = g.groups.groups };
+      rooms = g.groups.rooms;
+      spare = smaller g.users.spare (smaller g.clients.spare g.groups.spare);
+    } };
+}
+
+impl Groups {
+    /// What the lists say. Of two groups of one name the later counts.
+    pub fn build(alloc: Global, hasher: RandomState, lists: &GroupLists) -> Result<Groups, NoMemory>
+        ensures { IfOk result (λ groups. groups.membership ≡ membership_in lists.now) }
+    {
+        Ok(Groups {
+            users: NameSet::of(alloc, hasher, &lists.users)?,
+            clients: NameSet::of(alloc, hasher, &lists.clients)?,
+            groups: GroupMap::of(alloc, hasher, lists.groups.as_slice())?,
+        })
+    }
+
+    /// Whether the organisation has a user, a client or a group of this name.
+    pub fn has(&self, kind: MemberKind, name: &Text) -> bool
+        ensures { result ≡ spec.has self.now.membership kind name.now }
+    {
+        match kind {
+            MemberKind::User => self.users.contains(name),
+            MemberKind::Client => self.clients.contains(name),
+            MemberKind::Group => self.groups.has(name),
+        }
+    }
+
+    /// The first actor of an entry that is neither a user nor a client of the organisation nor
+    /// `pivotal`, or else the first group that it hasn't; `None` exactly where there is no such name.
+    /// It takes no memory.
+    pub fn stranger(&self, entry: &Entry) -> Option<Stranger>
+        ensures { result ≡ spec.first_stranger self.now.membership entry.now }
+    {
+        match self.strange_actor(entry.actors.as_slice()) {
+            Some(place) => Some(Stranger::Actor(place)),
+            None => match self.strange_group(entry.groups.as_slice()) {
+                Some(place) => Some(Stranger::Group(place)),
+                None => None,
+            },
+        }
+    }
+
+    fn strange_actor(&self, actors: &[Text]) -> Option<usize>
+        ensures { result ≡ position (λ name. not (spec.is_actor self.now.membership name)) actors.now }
+    {
+        actors.iter().position(|name| !self.is_actor(name))
+    }
+
+    fn strange_group(&self, groups: &[Text]) -> Option<usize>
+        ensures { result ≡ position (λ name. not (spec.has self.now.membership MemberKind.Group name)) groups.now }
+    {
+        groups.iter().position(|name| !self.groups.has(name))
+    }
+
+    fn is_actor(&self, name: &Text) -> bool
+        ensures { result ≡ spec.is_actor self.now.membership name.now }
+    {
+        is_operator(name) || self.users.contains(name) || self.clients.contains(name)
+    }
+
+    /// Whether a caller belongs to a group. It takes no memory.
+    #[tactic(auto, unfolding(crate::specs::Belonging::Belongs))]
+    fn belongs(&self, caller: &Text, group: &Text) -> bool
+        ensures { IsTrue result ↔ Belongs self.now.membership caller.now group.now }
+    {
+        self.groups.is_member(caller, group)
+    }
+
+    /// Whether a caller belongs to one of these groups. It takes no memory.
+    pub(crate) fn belongs_to_any(&self, caller: &Text, groups: &[Text]) -> bool
+        ensures { IsTrue result ↔ Any (Belongs self.now.membership caller.now) groups.now }
+    {
+        for group in groups {
+            if self.belongs(caller, group) {
+                return true;
+            }
+        }
+        false
+    }
+
+    /// Makes room for at least `count` further users, clients and groups.
+    pub fn reserve(&mut self, count: usize) -> Result<(), NoMemory>
+        ensures membership { self.new.membership ≡ self.old.membership }
+        ensures rooms { self.new.rooms ≡ self.old.rooms }
+        ensures ok { OnOk result (count ≤ self.new.spare) }
+        ensures spare { self.old.spare ≤ self.new.spare }
+    {
+        self.users.reserve(count)?;
+        self.clients.reserve(count)?;
+        self.groups.reserve(count)?;
+        Ok(())
+    }
+
+    /// Makes room in a group, where it is there, for at least `count` further members of each kind.
+    pub fn reserve_in(&mut self, group: &Text, count: usize) -> Result<(), NoMemory>
+        ensures membership { self.new.membership ≡ self.old.membership }
+        ensures ok { OnOk result (IsTrue (spec.has self.old.membership MemberKind.Group group.now) → count ≤ room_of self.new.rooms group.now) }
+        ensures room { room_of self.old.rooms group.now ≤ room_of self.new.rooms group.now }
+        ensures others { OthersKeepRoom group.now self.old.rooms self.new.rooms }
+        ensures spare { self.new.spare ≡ self.old.spare }
+    {
+        self.groups.reserve_in(group, count)
+    }
+
+    /// A user comes to the organisation. It takes no memory.
+    pub fn add_user(&mut self, name: Text)
+        requires { 0 < self.old.spare }
+        ensures membership { self.new.membership ≡ with_user name self.old.membership }
+        ensures rooms { self.new.rooms ≡ self.old.rooms }
+        ensures spare { self.old.spare ≤ self.new.spare + 1 }
+    {
+        self.users.insert(name);
+    }
+
+    /// A client comes to the organisation. It takes no memory.
+    pub fn add_client(&mut self, name: Text)
+        requires { 0 < self.old.spare }
+        ensures membership { self.new.membership ≡ with_client name self.old.membership }
+        ensures rooms { self.new.rooms ≡ self.old.rooms }
+        ensures spare { self.old.spare ≤ self.new.spare + 1 }
+    {
+        self.clients.insert(name);
+    }
+
+    /// A user goes from the organisation, but not from its groups. It takes no memory.
+    pub fn remove_user(&mut self, name: &Text)
+        ensures membership { self.new.membership ≡ without_user name.now self.old.membership }
+        ensures rooms { self.new.rooms ≡ self.old.rooms }
+        ensures spare { self.old.spare ≤ self.new.spare }
+    {
+        self.users.remove(name);
+    }
+
+    /// A client goes from the organisation, but not from its groups. It takes no memory.
+    pub fn remove_client(&mut self, name: &Text)
+        ensures membership { self.new.membership ≡ without_client name.now self.old.membership }
+        ensures rooms { self.new.rooms ≡ self.old.rooms }
+        ensures spare { self.old.spare ≤ self.new.spare }
+    {
+        self.clients.remove(name);
+    }
+
+    /// A member joins a group. It takes no memory.
+    pub fn join(&mut self, group: &Text, kind: MemberKind, member: Text)
+        requires { 0 < room_of self.old.rooms group.now }
+        ensures membership { self.new.membership ≡ with_groups (changed group.now (joined kind member) self.old.membership.groups) self.old.membership }
+        ensures room { room_of self.old.rooms group.now ≤ room_of self.new.rooms group.now + 1 }
+        ensures others { OthersKeepRoom group.now self.old.rooms self.new.rooms }
+        ensures spare { self.new.spare ≡ self.old.spare }
+    {
+        self.groups.join(group, kind, member);
+    }
+
+    /// A member leaves a group, if both are there. It takes no memory.
+    pub fn leave(&mut self, group: &Text, kind: MemberKind, member: &Text)
+        ensures membership { self.new.membership ≡ with_groups (changed group.now (left kind member.now) self.old.membership.groups) self.old.membership }
+        ensures room { room_of self.old.rooms group.now ≤ room_of self.new.rooms group.now }
+        ensures others { OthersKeepRoom group.now self.old.rooms self.new.rooms }
+        ensures spare { self.new.spare ≡ self.old.spare }
+    {
+        self.groups.leave(group, kind, member);
+    }
+
+    /// Puts a group in, in place of one of its name: a group may be made anew while a request is
+    /// prepared. It takes no memory.
+    pub fn put_group(&mut self, name: Text, group: Group)
+        requires { 0 < self.old.spare }
+        ensures membership { self.new.membership ≡ with_groups (finite.insert self.old.membership.groups name group.members) self.old.membership }
+        ensures rooms { self.new.rooms ≡ finite.insert self.old.rooms name group.spare }
+        ensures spare { self.old.spare ≤ self.new.spare + 1 }
+    {
+        self.groups.put(name, group);
+    }
+
+    /// Takes a group out, if it is there, but not out of other groups. It takes no memory.
+    pub fn remove_group(&mut self, name: &Text)
+        ensures membership { self.new.membership ≡ with_groups (finite.remove self.old.membership.groups name.now) self.old.membership }
+        ensures rooms { self.new.rooms ≡ finite.remove self.old.rooms name.now }
+        ensures spare { self.old.spare ≤ self.new.spare }
+    {
+        self.groups.remove(name);
+    }
+}
+
+/// Whether a name is that of the operator of the site.
+pub(crate) fn is_operator(name: &Text) -> bool
+    ensures { result ≡ bytes_eq name.now operator }
+{
+    name.as_str() == "pivotal"
+}

@@ -1,0 +1,10 @@
+//! The kinds of members that a group has.
+
+/// What a member of a group is.
+#[derive(Clone, Copy, Debug, PartialEq, Eq, Drop)]
+pub enum MemberKind {
+    User,
+    Client,
+    /// A group within the group. It is kept, and gives nobody a permission.
+    Group,
+}

@@ -1,0 +1,102 @@
+//! Sets of names, with room for more.
+ghost use Rattle.std.specs.Prelude.{◌≡◌, ◌+◌, ◌<◌, ◌≤◌, IfOk, OnOk};
+ghost use Rattle.std.specs.FinSet as set;
+ghost use Rattle.indexmap.specs.IndexSet.{spare};
+ghost use Rattle.access_lists.specs.NameSets.{seen};
+
+use doc_tree::{Names, NoMemory, Text};
+use indexmap::IndexSet;
+use std::alloc::Global;
+use std::hash::RandomState;
+use std::marker::Model;
+
+/// Names by their hashes.
+type Hashed = IndexSet<Text, RandomState>;
+
+/// A set of names, with room for a number of further ones. Contracts see the finite set, and the room.
+#[derive(Drop)]
+pub(crate) struct NameSet {
+    items: Hashed,
+}
+
+impl Model for NameSet {
+    ghost use Rattle.access_lists.specs.Rooms.{KeptNames, kept_names_code};
+
+    ghost Value = { KeptNames };
+
+    ghost coded = { kept_names_code };
+
+    ghost use Rattle.indexmap.specs.IndexSet.{spare};
+    ghost use Rattle.access_lists.specs.NameSets.{seen};
+
+    ghost view = { λ s. record { names = seen s.items.keys; spare = spare s.items } };
+}
+
+impl NameSet {
+    /// The set of a list of names.
+    pub(crate) fn of(alloc: Global, hasher: RandomState, names: &Names) -> Result<NameSet, NoMemory>
+        ensures { IfOk result (λ s. s.names ≡ set.from_list names.now) }
+    {
+        let mut items = IndexSet::with_capacity_and_hasher(alloc, names.len(), hasher)?;
+        for name in names.as_slice() {
+            add(&mut items, name.as_text().copy(alloc)?)?;
+        }
+        Ok(NameSet { items })
+    }
+
+    /// Whether a name is in the set. It is looked for by its hash.
+    pub(crate) fn contains(&self, name: &Text) -> bool
+        ensures { result ≡ set.contains self.now.names name.now }
+    {
+        self.items.contains(name)
+    }
+
+    /// Makes room for at least `count` further names.
+    pub(crate) fn reserve(&mut self, count: usize) -> Result<(), NoMemory>
+        ensures names { self.new.names ≡ self.old.names }
+        ensures ok { OnOk result (count ≤ self.new.spare) }
+        ensures spare { self.old.spare ≤ self.new.spare }
+    {
+        self.items.reserve(count)?;
+        Ok(())
+    }
+
+    /// Puts a name in. It takes no memory.
+    pub(crate) fn insert(&mut self, name: Text)
+        requires { 0 < self.old.spare }
+        ensures names { self.new.names ≡ set.insert self.old.names name }
+        ensures spare { self.old.spare ≤ self.new.spare + 1 }
+    {
+        put(&mut self.items, name);
+    }
+
+    /// Takes a name out, if it is there. It takes no memory.
+    pub(crate) fn remove(&mut self, name: &Text)
+        ensures names { self.new.names ≡ set.remove self.old.names name.now }
+        ensures spare { self.old.spare ≤ self.new.spare }
+    {
+        take(&mut self.items, name);
+    }
+}
+
+fn add(items: &mut Hashed, name: Text) -> Result<(), NoMemory>
+    ensures { OnOk result (seen items.new.keys ≡ set.insert (seen items.old.keys) name) }
+{
+    items.insert(name)?;
+    Ok(())
+}
+
+fn put(items: &mut Hashed, name: Text)
+    requires { 0 < spare items.old }
+    ensures names { seen items.new.keys ≡ set.insert (seen items.old.keys) name }
+    ensures spare { spare items.old ≤ spare items.new + 1 }
+{
+    let _ = items.insert(name);
+}
+
+fn take(items: &mut Hashed, name: &Text)
+    ensures names { seen items.new.keys ≡ set.remove (seen items.old.keys) name.now }
+    ensures spare { spare items.old ≤ spare items.new }
+{
+    let _ = items.swap_remove(name);
+}

@@ -1,0 +1,30 @@
+//! Who may do what.
+ghost use Rattle.std.specs.Prelude.{◌↔◌, IsTrue};
+ghost use Rattle.access_lists.specs.Acls.{entry_of};
+ghost use Rattle.access_lists.specs.Permitted.{Permitted};
+
+use crate::acl::{Acl, Entry};
+use crate::groups::{Groups, is_operator};
+use crate::perm::Perm;
+use doc_tree::Text;
+
+/// Whether a caller may do to an object of this access list what the permission is of: the caller is
+/// `pivotal`, or one of the entry's actors, or belongs to one of its groups. It takes no memory, and as
+/// many look-ups by hash as the entry has groups, whatever the number of their members.
+pub fn permitted(groups: &Groups, acl: &Acl, perm: Perm, caller: &Text) -> bool
+    ensures { IsTrue result ↔ Permitted groups.now.membership (entry_of perm acl.now) caller.now }
+{
+    permitted_by(groups, acl.entry(perm), caller)
+}
+
+fn permitted_by(groups: &Groups, entry: &Entry, caller: &Text) -> bool
+    ensures { IsTrue result ↔ Permitted groups.now.membership entry.now caller.now }
+{
+    if is_operator(caller) {
+        return true;
+    }
+    if entry.actors.contains(caller) {
+        return true;
+    }
+    groups.belongs_to_any(caller, entry.groups.as_slice())
+}

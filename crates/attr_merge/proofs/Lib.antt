@@ -1,0 +1,10 @@
+pub mod BelowLemmas
+pub mod EntryLemmas
+pub mod FieldLemmas
+pub mod GatheredLemmas
+pub mod LeafLemmas
+pub mod ListLemmas
+pub mod OriginLemmas
+pub mod PairLemmas
+pub mod SeenLemmas
+pub mod StepLemmas

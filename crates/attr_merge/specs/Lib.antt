@@ -1,0 +1,12 @@
+pub mod Children
+pub mod Effective
+pub mod Elements
+pub mod Families
+pub mod Laws
+pub mod Layers
+pub mod Merge
+pub mod Merged
+pub mod Nodes
+pub mod Parts
+pub mod Pieces
+pub mod Texts

@@ -1,0 +1,136 @@
+-- The isolation theorem. Begin here.
+--
+-- For every stream of requests, however the organisations' requests interleave, the bytes answered to each
+-- organisation are those of a small machine given that organisation's requests alone.
+--
+-- It is part of `Answered` below, which is part of `Ran`, the one contract of `run` and `once`. The words that it
+-- stands on:
+--
+--   Splits, place_after        http_wire/specs/Splits.antt      how a stream of bytes splits into messages and a rest
+--   request_of                 http_wire/specs/Requests.antt    the request that a message spells
+--   reply_text                 http_wire/specs/Replies.antt     the bytes of a reply
+--   own                        org_machine/specs/Alone.antt     an organisation's own exchanges, in order
+--   replies_alone              org_machine/specs/Alone.antt     the small machine: the replies to these requests
+--   RunsAlone, Alone           org_machine/specs/Alone.antt     the replies are the small machine's: to one organisation, to each
+--   mark_of, answer, after     org_machine/specs/Marks.antt     what befell a request, the reply to it and the state after it
+--   step                       org_machine/specs/Steps.antt     one request of one organisation
+--   bytes_to, bytes_alone      specs/Isolation.antt             the bytes answered to an organisation, and the small machine's
+--   Answers                    specs/Isolation.antt             one reply to each message, and to each organisation the bytes that it would get alone
+--   IsAnswered and its kin     specs/Isolation.antt             what a run read, what it answered and what it wrote
+--   TellsRest, IsComplete      specs/Endings.antt               what a status tells of the rest, and what leaves no other
+--   command_of                 specs/Words.antt                 the command that the words are
+--   IsNoted                    specs/Notes.antt                 the line of a status
+--   Ends                       specs/Exits.antt                 the number with which the process ends
+--
+-- What `explain` prints is told by `Explained`, which stands on these:
+--
+--   Explains, lines            layer_sources/specs/Lines.antt   the lines that explain the bytes of a sources file
+--   layers_in                  layer_sources/specs/Sources.antt the layers that these bytes give, if they have the format
+--   IsFile                     outside_disk/specs/Disk.antt     the file of a name, where the disk tells its files
+--   IsBadFile, IsExplainedBy   specs/Explaining.antt            what the disk tells of a file is no sources file; these lines explain it
+--
+-- The limits of these clauses:
+--
+-- * What an input, an output or notes hold is told only where these tell it, as a list in memory does. Standard
+--   input and output tell nothing: over them nothing is said of what they hold, and a fault comes only where its
+--   count rose.
+-- * Any request may be answered 500, and any run may end with 7, for want of memory: no clause ties that to an
+--   allocation that was refused. Tests and checks show that it isn't so with ample memory.
+-- * A message that is none ends the stream for everyone, and so does a read or a write that fails: what follows
+--   isn't answered to any organisation.
+-- * The operator's listing of organisations tells who is there, and is of no organisation. That the header which
+--   names the caller is true is the promise of the front that sets it.
+-- * Time, memory used, and that a reader gets what was written.
+use Rattle.std.specs.Prelude.{◌≡◌, ◌≢◌, ◌⊎◌, ◌↔◌, ℕ, List, Option, Some}
+use Rattle.std.specs.Io.KnownBytes.{append_known}
+use Rattle.outside_core.specs.Failed.{Rose}
+use Rattle.outside_core.specs.Sink.{GainsPart}
+use Rattle.outside_disk.specs.Disk.{Files}
+use Rattle.chefsite.specs.declared.statuses.Status.{Status}
+use Rattle.chefsite.specs.declared.statuses.Status.TheVariants.{Done, Usage, ReadFault, WriteFault, NoMemory, NotAMessage, BadFile}
+use Rattle.chefsite.specs.Words.{IsCommand, answer, explain, command_of, file_of}
+use Rattle.chefsite.specs.Isolation.{IsAnswered, IsAnsweredToRest, IsAnsweredUpTo, IsCutShort}
+use Rattle.chefsite.specs.Endings.{TellsRest, IsComplete}
+use Rattle.chefsite.specs.Explaining.{HasNoSources, IsBadFile, IsExplainedBy}
+use Rattle.chefsite.specs.Notes.{IsNoted}
+
+-- the course of an input, an output, notes or a disk over a run: what it tells, which is the bytes that an input has left
+-- or that an output and notes have gained, or the files of a disk; and its count of faults, before and after
+pub record Course (T : Type 0) : Type 0 where
+  pub old : Option T
+  pub new : Option T
+  pub faults_before : ℕ
+  pub faults_after : ℕ
+
+-- what it tells and its count of faults are as they were
+pub record IsUntouched {T : Type 0} (course : Course T) : Type 0 where
+  pub told : course.new ≡ course.old
+  pub count : course.faults_after ≡ course.faults_before
+
+-- a run of `answer` ended with this status
+pub record Answered (status : Status) (input output : Course (List ℕ)) (disk : Course Files) : Type 0 where
+  -- 0: the input was read to its end, and each request of it was answered as if its organisation were alone
+  pub done : status ≡ Done → IsAnswered input.old input.new output.old output.new
+  -- 3: the whole messages of the bytes taken were answered so
+  pub read_fault : status ≡ ReadFault → IsAnsweredUpTo input.old input.new output.old output.new
+  -- and only where a read failed
+  pub read_cause : status ≡ ReadFault → Rose input.faults_before input.faults_after
+  -- 4: some first messages were answered so, and a front of the replies was written
+  pub write_fault : status ≡ WriteFault → IsCutShort input.old output.old output.new
+  -- and only where a write failed
+  pub write_cause : status ≡ WriteFault → Rose output.faults_before output.faults_after
+  -- 7: nothing was read or written
+  pub nothing : status ≡ NoMemory → (input.new ≡ input.old) × (output.new ≡ output.old)
+  -- 8: the whole messages were answered so, and what follows them, at the place that is told, isn't nothing and is no message
+  pub not_a_message : (place : ℕ) → status ≡ NotAMessage place → IsAnsweredToRest place input.old output.old output.new
+  -- 0 comes only where nothing follows the whole messages, and 8 only where something does
+  pub rest : TellsRest status input.old
+  -- whole messages alone and no count that rose leave 0 and 7
+  pub complete : IsComplete status input.old input.faults_before input.faults_after output.faults_before output.faults_after
+  -- no file is looked at, so none is bad
+  pub files : IsUntouched disk
+  pub no_file : status ≢ BadFile
+
+-- a run of `explain` with this file ended with this status
+pub record Explained (status : Status) (file : List ℕ) (input output : Course (List ℕ)) (disk : Course Files) : Type 0 where
+  -- 0: the output gained the lines that explain the file, and nothing else
+  pub done : status ≡ Done → (lines : List ℕ) × IsExplainedBy disk.old file lines × (output.new ≡ append_known output.old lines)
+  -- 3: only where the disk failed
+  pub read_cause : status ≡ ReadFault → Rose disk.faults_before disk.faults_after
+  -- 4: a front of these lines was written
+  pub write_fault : status ≡ WriteFault → (lines : List ℕ) × IsExplainedBy disk.old file lines × GainsPart output.old output.new lines
+  -- and only where a write failed
+  pub write_cause : status ≡ WriteFault → Rose output.faults_before output.faults_after
+  -- 13: only where the file isn't there, or its bytes aren't sources
+  pub bad_file : status ≡ BadFile → IsBadFile disk.old file
+  -- and where that is so, on a disk that tells its files, no other status comes but for a read that failed and want of memory
+  pub no_sources : (files : Files) → disk.old ≡ Some files → HasNoSources (files file) → (status ≡ BadFile) ⊎ (status ≡ ReadFault) ⊎ (status ≡ NoMemory)
+  -- 3, 7 and 13: nothing was written
+  pub nothing : (status ≡ ReadFault) ⊎ (status ≡ NoMemory) ⊎ (status ≡ BadFile) → output.new ≡ output.old
+  -- no count that rose leaves 0, 13 and 7
+  pub complete : ¬ (Rose disk.faults_before disk.faults_after) → ¬ (Rose output.faults_before output.faults_after)
+      → (status ≡ Done) ⊎ (status ≡ BadFile) ⊎ (status ≡ NoMemory)
+  -- the input isn't looked at, so 8 never comes
+  pub no_input : IsUntouched input
+  pub no_message : (place : ℕ) → status ≢ NotAMessage place
+  -- the files are as they were
+  pub kept : disk.new ≡ disk.old
+
+-- the command that these words are ended with this status
+pub record Performed (status : Status) (words : List (List ℕ)) (input output : Course (List ℕ)) (disk : Course Files) : Type 0 where
+  -- 2: exactly where the words are no command
+  pub usage : (status ≡ Usage) ↔ ¬ (IsCommand words)
+  -- and then nothing was read or written
+  pub idle : status ≡ Usage → IsUntouched input × IsUntouched output × IsUntouched disk
+  -- `answer`: the isolation theorem
+  pub answered : command_of words ≡ Some answer → Answered status input output disk
+  -- `explain`
+  pub explained : (file : List ℕ) → command_of words ≡ Some (explain file) → Explained status file input output disk
+
+-- a run of these words ended with this status; `before` and `after` are the notes as a value
+pub record Ran {N : Type 0} (status : Status) (words : List (List ℕ)) (input output notes : Course (List ℕ)) (disk : Course Files) (before after : N) : Type 0 where
+  pub performed : Performed status words input output disk
+  -- at 0 nothing is noted, and else one line, or a front of it where that write failed
+  pub noted : IsNoted status (file_of (command_of words)) notes.old notes.new notes.faults_before notes.faults_after
+  -- at 0 the notes aren't touched
+  pub quiet : status ≡ Done → after ≡ before

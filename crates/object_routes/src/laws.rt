@@ -1,0 +1,28 @@
+//! Laws of the groups' definitions, which need no code.
+
+ghost use Rattle.std.specs.Prelude.{◌≡◌, None, Ok, codes};
+ghost use Rattle.doc_tree.specs.Doc.{words};
+ghost use Rattle.doc_tree.specs.declared.kind.Kind.TheVariants as kinds;
+ghost use Rattle.object_forms.specs.Objects.{object_from};
+ghost use Rattle.org_core.specs.Conditions.{MeetsConditions};
+ghost use Rattle.org_core.specs.Keeping.{KeepsConditions};
+ghost use Rattle.org_core.specs.Moves.{after_moves};
+ghost use Rattle.org_core.specs.Replies.{one_key};
+ghost use Rattle.org_core.specs.declared.collections.Collection as collections;
+ghost use Rattle.object_routes.specs.DataBags.{data_rules};
+ghost use Rattle.object_routes.specs.Objects.{objects_rules};
+ghost use Rattle.object_routes.specs.Organisations.{creation, default_environment, organisation_rules};
+
+/// The environment that every organisation has is what the body `{"name":"_default"}` gives.
+pub fn default_environment_is_read()
+    ensures { object_from kinds.Environment None (one_key (codes "name") (words (codes "_default"))) ≡ Ok default_environment }
+{}
+
+/// A new organisation meets the conditions of every organisation's objects, and what each group does
+/// keeps them.
+pub fn groups_keep_conditions()
+    ensures new { MeetsConditions (after_moves creation None) }
+    ensures organisations { KeepsConditions organisation_rules }
+    ensures objects { (collection : collections.Collection) → KeepsConditions (objects_rules collection) }
+    ensures data_bags { KeepsConditions data_rules }
+{}

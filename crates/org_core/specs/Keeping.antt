@@ -1,0 +1,21 @@
+-- What leads from a state that meets the conditions to one that does.
+use Rattle.std.specs.Prelude.{◌≡◌, false, None, Ok}
+use Rattle.org_core.specs.declared.requests.Request.{Request}
+use Rattle.org_core.specs.Conditions.{MeetsConditions}
+use Rattle.org_core.specs.Contexts.{Context}
+use Rattle.org_core.specs.Moves.{after_moves}
+use Rattle.org_core.specs.Outcomes.{Decided, outcome_of}
+use Rattle.org_core.specs.Rules.{Rules}
+use Rattle.org_core.specs.States.{State}
+
+-- what was decided leads to a state that meets the conditions
+abbrev pub LeadsToConditions : State → Decided → Type 0
+LeadsToConditions state decided = MeetsConditions (after_moves (outcome_of decided.answer).moves state)
+
+-- what a group does keeps the conditions: an operation that was read, whose object is there and that the group itself
+-- doesn't refuse leads from a state that meets them to one that does
+abbrev pub KeepsConditions : {Route Operation : Type 0} → Rules Route Operation → Type 0
+KeepsConditions {Route} {Operation} rules =
+    (context : Context) (route : Route) (request : Request) (operation : Operation) → MeetsConditions context.state
+    → rules.operation context route request ≡ Ok operation → rules.lacks context operation ≡ false → rules.own_refusal context operation ≡ None
+    → LeadsToConditions context.state (rules.does context operation)

@@ -1,0 +1,65 @@
+-- Each step keeps the conditions of an organisation's objects.
+use Rattle.std.proofs.Common.{◌≡◌, ℕ, List, [], ◌∷◌, Option, Some, None, Result, Ok, Err}
+use Rattle.doc_tree.specs.Doc.{dict, no_pairs}
+use Rattle.org_core.specs.declared.needs.Need.TheVariants.{Operator}
+use Rattle.org_core.specs.declared.needs.Permission.TheVariants as permission
+use Rattle.org_core.specs.declared.requests.Body.{Body}
+use Rattle.org_core.specs.Needs.{lacking}
+use Rattle.org_core.specs.declared.requests.Place.{Place}
+use Rattle.org_core.specs.declared.requests.Place.TheVariants.{Of, Organisations, LeftOut, NoRoute, NoMemory}
+use Rattle.org_core.specs.declared.requests.Request.{Request}
+use Rattle.org_core.specs.declared.routes.Route.{Route}
+use Rattle.org_core.specs.declared.routes.Route.TheVariants.{Organisation, Objects, Data, Access, Cookbooks, Policies, Search}
+use Rattle.org_core.specs.Conditions.{MeetsConditions}
+use Rattle.org_core.specs.Contexts.{Context}
+use Rattle.org_core.specs.Keeping.{LeadsToConditions}
+use Rattle.org_core.specs.Moves.{after_moves}
+use Rattle.org_core.specs.Outcomes.{shows, tells}
+use Rattle.org_core.specs.States.{State}
+use Rattle.route_table.specs.declared.verbs.Verb.{Verb}
+use Rattle.route_table.specs.declared.verbs.Verb.TheVariants.{Get, Post, Put, Delete, Other}
+use Rattle.object_routes.proofs.KeepingLemmas.{organisations_keep, objects_keep, data_keep}
+use Rattle.object_routes.specs.DataBags.{data_rules}
+use Rattle.object_routes.specs.Objects.{objects_rules}
+use Rattle.object_routes.specs.Organisations.{organisation_rules}
+use Rattle.org_machine.proofs.AnsweredLemmas.{unless_keeps, answered_keeps}
+use Rattle.org_machine.specs.Heads.{head_refusal}
+use Rattle.org_machine.specs.Marks.{Mark, served, short, down, after}
+use Rattle.org_machine.specs.Order.{absence_refusal}
+use Rattle.org_machine.specs.Steps.{at_route, asks_for_organisation, context, at_organisations, at_place, decided, step}
+
+-- a route keeps the conditions by the law of its group, one line a group
+at_route_keeps : (context : Context) (route : Route) (request : Request) → MeetsConditions context.state → LeadsToConditions context.state (at_route context route request)
+at_route_keeps context (Organisation route) request meets = answered_keeps organisation_rules organisations_keep context route request meets
+at_route_keeps context (Objects collection route) request meets = answered_keeps (objects_rules collection) (objects_keep collection) context route request meets
+at_route_keeps context (Data route) request meets = answered_keeps data_rules data_keep context route request meets
+at_route_keeps context (Access route) request meets = meets
+at_route_keeps context (Cookbooks route) request meets = meets
+at_route_keeps context (Policies route) request meets = meets
+at_route_keeps context (Search route) request meets = meets
+
+organisations_keep_it : (state : State) (caller : Option (List ℕ)) (verb : Verb) (body : Body) → MeetsConditions state → LeadsToConditions state (at_organisations caller verb body)
+organisations_keep_it state caller Get body meets = unless_keeps state (lacking (context [] caller None) (Operator permission.Read ∷ [])) (tells (shows (dict no_pairs))) meets (λ _. meets)
+organisations_keep_it state caller Post body meets = meets
+organisations_keep_it state caller Put body meets = meets
+organisations_keep_it state caller Delete body meets = meets
+organisations_keep_it state caller Other body meets = meets
+
+at_place_keeps : (place : Place) (request : Request) (state : State) → MeetsConditions state → LeadsToConditions state (at_place place request state)
+at_place_keeps (Of org route) request state meets =
+    unless_keeps state (absence_refusal (asks_for_organisation route) (context org request.caller state)) (at_route (context org request.caller state) route request) meets
+    (λ _. at_route_keeps (context org request.caller state) route request meets)
+at_place_keeps Organisations request state meets = organisations_keep_it state request.caller request.verb request.body meets
+at_place_keeps LeftOut request state meets = meets
+at_place_keeps NoRoute request state meets = meets
+at_place_keeps NoMemory request state meets = meets
+
+-- each step leads from a state that meets the conditions to one that does
+pub step_keeps : (request : Request) (state : State) → MeetsConditions state → MeetsConditions (after_moves (step request state).moves state)
+step_keeps request state meets = unless_keeps state (head_refusal request) (at_place request.place request state) meets (λ _. at_place_keeps request.place request state meets)
+
+-- and so does whatever befalls a request
+pub after_keeps : (mark : Mark) (request : Request) (state : State) → MeetsConditions state → MeetsConditions (after mark request state)
+after_keeps served request state meets = step_keeps request state meets
+after_keeps short request state meets = meets
+after_keeps down request state meets = meets

@@ -1,0 +1,3 @@
+pub mod EntriesLemmas
+pub mod FrontLemmas
+pub mod ListingLemmas

@@ -1,0 +1,11 @@
+pub mod Signs
+pub mod Query
+pub mod QueryCode
+pub mod Items
+pub mod Falls
+pub mod Grammar
+pub mod Place
+pub mod Frames
+pub mod FrameCode
+pub mod Parts
+pub mod Machine

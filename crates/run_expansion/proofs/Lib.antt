@@ -1,0 +1,6 @@
+pub mod VisitLemmas
+pub mod WalkLemmas
+pub mod WorkLemmas
+pub mod FirstsLemmas
+pub mod KeysLemmas
+pub mod ReadingLemmas

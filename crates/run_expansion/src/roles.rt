@@ -1,0 +1,58 @@
+//! Roles: the run lists that a name stands for.
+ghost use Rattle.std.specs.Prelude.{◌≡◌, option_copied};
+ghost use Rattle.run_expansion.specs.Roles.{list_for, own_list};
+
+use doc_tree::{Listed, Name};
+use indexmap::IndexMap;
+use run_list::{Item, Items};
+
+/// A run list that a role has for one environment, in place of its own.
+#[derive(Drop)]
+pub struct EnvRunList {
+    pub environment: Name,
+    pub run_list: Items,
+}
+
+/// Run lists by environments, in any order. Of two for one environment the first counts.
+pub type EnvRunLists = Listed<EnvRunList>;
+
+/// The run lists of a role.
+#[derive(Drop)]
+pub struct RunLists {
+    /// What it runs in an environment for which it has no list.
+    pub run_list: Items,
+    pub env_run_lists: EnvRunLists,
+}
+
+/// A role, as it is read from its stored object.
+#[derive(Drop)]
+pub struct Role {
+    pub name: Name,
+    pub run_lists: RunLists,
+}
+
+/// The run lists of roles by the roles' names, of which no two are the same.
+pub type Roles = IndexMap<Name, RunLists>;
+
+impl RunLists {
+    /// What the role runs in an environment.
+    pub(crate) fn list_for(&self, env: &Name) -> &[Item]
+        ensures { result.now ≡ list_for env.now self.now }
+    {
+        match own_list(self.env_run_lists.as_slice(), env) {
+            Some(items) => items.as_slice(),
+            None => self.run_list.as_slice(),
+        }
+    }
+}
+
+fn own_list<'a>(lists: &'a [EnvRunList], env: &Name) -> Option<&'a Items>
+    ensures { option_copied result ≡ own_list lists.now env.now }
+{
+    for list in lists {
+        if *env == list.environment {
+            return Some(&list.run_list);
+        }
+    }
+    None
+}

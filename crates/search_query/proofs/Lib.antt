@@ -1,0 +1,4 @@
+pub mod WalkLemmas
+pub mod MeetLemmas
+pub mod PairLemmas
+pub mod BracketLemmas

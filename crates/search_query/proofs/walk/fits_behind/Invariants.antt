@@ -1,0 +1,10 @@
+use Rattle.std.proofs.Common.{◌+◌, ◌↔◌, length}
+use Rattle.search_query.specs.Walk.{FitsBehind}
+use Rattle.search_query.proofs.walk.fits_behind.Given as goal
+
+-- what is left decides
+abbrev pub invariant-places : goal.invariant-places
+invariant-places l = FitsBehind l.left l.here ↔ FitsBehind l.signs l.value
+
+abbrev pub decreases-places : goal.decreases-places
+decreases-places l = length l.left + length l.here

@@ -1,0 +1,4 @@
+pub mod Pair
+pub mod Matching
+pub mod Walk
+pub mod Pairs

@@ -1,0 +1,13 @@
+//! The pairs by which an object is found, and which objects a query finds.
+#![tactic(auto)]
+
+mod flatten;
+mod matching;
+mod pair;
+#[cfg(test)]
+mod tests;
+mod walk;
+
+pub use flatten::pairs;
+pub use matching::matches;
+pub use pair::{Pair, Pairs};
