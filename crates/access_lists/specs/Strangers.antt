@@ -21,7 +21,7 @@ has membership kind.Group name = is_some (finite.get membership.groups name)
 abbrev pub is_actor : Membership → List ℕ → Bool
 is_actor membership name = bytes_eq name operator || (has membership kind.User name || has membership kind.Client name)
 
--- the first actor that the organisation doesn't have, or else the first group, with its place in its list
+-- the first actor that the organisation doesn't have, or else the first group, with its position in its list
 abbrev pub first_stranger : Membership → Entry → Option Stranger
 first_stranger membership entry =
     option_or (option_map Actor (position (λ name. not (is_actor membership name)) entry.actors)) (option_map Group (position (λ name. not (has membership kind.Group name)) entry.groups))

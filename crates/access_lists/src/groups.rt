@@ -19,7 +19,7 @@ use std::alloc::Global;
 use std::hash::RandomState;
 use std::marker::Model;
 
-/// A name that an organisation doesn't have: its place in its list of an entry, counted from 0.
+/// A name that an organisation doesn't have: its position in its list of an entry, counted from 0.
 #[derive(Clone, Copy, Debug, PartialEq, Eq, Drop)]
 pub enum Stranger {
     /// Of an actor.
@@ -85,9 +85,9 @@ impl Groups {
         ensures { result ≡ spec.first_stranger self.now.membership entry.now }
     {
         match self.strange_actor(entry.actors.as_slice()) {
-            Some(place) => Some(Stranger::Actor(place)),
+            Some(position) => Some(Stranger::Actor(position)),
             None => match self.strange_group(entry.groups.as_slice()) {
-                Some(place) => Some(Stranger::Group(place)),
+                Some(position) => Some(Stranger::Group(position)),
                 None => None,
             },
         }

@@ -4,7 +4,7 @@ use Rattle.std.proofs.lemmas.List.{append-nil}
 use Rattle.doc_tree.specs.Doc.{Doc, null, boolean, whole, words, list, dict, no_pairs}
 use Rattle.attr_merge.specs.Children.{children, pieces_depth}
 use Rattle.attr_merge.specs.Effective.{Below, Decides, DecidesTop, NothingBelow}
-use Rattle.attr_merge.specs.Families.{counting_below, joined, places}
+use Rattle.attr_merge.specs.Families.{counting_below, joined, positions}
 use Rattle.attr_merge.specs.Laws.{IsLeafAt, LeavesShowWhatIsBelow}
 use Rattle.attr_merge.specs.Pieces.{Piece, seen}
 use Rattle.attr_merge.proofs.SeenLemmas.{seen-children, children-less}
@@ -27,12 +27,12 @@ decided [] below no_leaf nothing = refl
 decided (top ∷ rest) below no_leaf nothing = absurd (by_document top.document no_leaf)
   where
     by_document : (d : Doc) → ((value : Doc) (origin : List ℕ) → DecidesTop d top rest below (Some value) (Some origin) → ⊥) → ⊥
-    by_document null none_of = none_of null (top.place ∷ []) (refl, refl)
-    by_document (boolean b) none_of = none_of (boolean b) (top.place ∷ []) (refl, refl)
-    by_document (whole z) none_of = none_of (whole z) (top.place ∷ []) (refl, refl)
-    by_document (words s) none_of = none_of (words s) (top.place ∷ []) (refl, refl)
-    by_document (list ds) none_of = none_of (joined top (counting_below top rest)) (places (top ∷ counting_below top rest)) (refl, refl)
-    by_document (dict ps) none_of = none_of (dict no_pairs) (top.place ∷ []) ((λ n. (refl, refl)), (λ s. absurd (s.2 (nothing s.0 s.1))))
+    by_document null none_of = none_of null (top.position ∷ []) (refl, refl)
+    by_document (boolean b) none_of = none_of (boolean b) (top.position ∷ []) (refl, refl)
+    by_document (whole z) none_of = none_of (whole z) (top.position ∷ []) (refl, refl)
+    by_document (words s) none_of = none_of (words s) (top.position ∷ []) (refl, refl)
+    by_document (list ds) none_of = none_of (joined top (counting_below top rest)) (positions (top ∷ counting_below top rest)) (refl, refl)
+    by_document (dict ps) none_of = none_of (dict no_pairs) (top.position ∷ []) ((λ n. (refl, refl)), (λ s. absurd (s.2 (nothing s.0 s.1))))
 
 longer : (p q : List (List ℕ)) (key : List ℕ) → suc (length p) ≤ length (p ++ key ∷ q)
 longer [] q key = omega arith

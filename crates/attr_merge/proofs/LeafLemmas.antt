@@ -8,7 +8,7 @@ use Rattle.doc_tree.specs.declared.tree.Tree.{Tree}
 use Rattle.doc_tree.specs.declared.tree.Tree.TheVariants as tree
 use Rattle.attr_merge.specs.Children.{AreValues}
 use Rattle.attr_merge.specs.Effective.{Below, Decides, DecidesTop, IsEffective, NothingBelow, SomethingBelow}
-use Rattle.attr_merge.specs.Families.{joined, counting_below, places}
+use Rattle.attr_merge.specs.Families.{joined, counting_below, positions}
 use Rattle.attr_merge.specs.Merge.{AreEffective}
 use Rattle.attr_merge.specs.Merged.{origin_at}
 use Rattle.attr_merge.specs.Pieces.{Piece, seen, with_value, is_plain}
@@ -27,7 +27,7 @@ ok-one (Err e) p step = tt
 plain-hides : (top : Piece) (rest : List Piece) (k : List ℕ) (p : List (List ℕ)) → is_plain top.document ≡ true → seen (k ∷ p) (top ∷ rest) ≡ []
 plain-hides top rest k p plain = by_document top.document plain
   where
-    by_document : (d : Doc) → is_plain d ≡ true → seen (k ∷ p) (record { place = top.place; level = top.level; document = d } ∷ rest) ≡ []
+    by_document : (d : Doc) → is_plain d ≡ true → seen (k ∷ p) (record { position = top.position; level = top.level; document = d } ∷ rest) ≡ []
     by_document null h = cc
     by_document (boolean b) h = refl
     by_document (whole z) h = refl
@@ -78,18 +78,18 @@ not-null top rest values is =
 
 pub scalar-effective : (cs : List Piece) (top : Piece) (rest : List Piece) (t : Tree) (leaves : List (List (List ℕ) × List ℕ))
     → cs ≡ top ∷ rest → AreValues cs → top.document ≡ doc_of t → ((ds : List Doc) → t ≡ tree.List ds → ⊥) → ((ps : List (List ℕ × Doc)) → t ≡ tree.Dict ps → ⊥)
-    → leaves ≡ ([], top.place ∷ []) ∷ []
+    → leaves ≡ ([], top.position ∷ []) ∷ []
     → (path : List (List ℕ)) → IsEffective cs path (at path (doc_of t)) (origin_at path leaves)
 scalar-effective cs top rest tree.Null leaves is values document no_list no_dict leaf = absurd (not-null top rest (subst AreValues is values) document)
 scalar-effective cs top rest (tree.Bool b) leaves is values document no_list no_dict leaf =
-    leaf-effective cs top rest (boolean b) (top.place ∷ []) leaves is values (ap is_plain document) (λ k. refl) leaf
-    (λ below. subst (λ (d : Doc). DecidesTop d top rest below (Some (boolean b)) (Some (top.place ∷ []))) (sym document) (refl, refl))
+    leaf-effective cs top rest (boolean b) (top.position ∷ []) leaves is values (ap is_plain document) (λ k. refl) leaf
+    (λ below. subst (λ (d : Doc). DecidesTop d top rest below (Some (boolean b)) (Some (top.position ∷ []))) (sym document) (refl, refl))
 scalar-effective cs top rest (tree.Whole z) leaves is values document no_list no_dict leaf =
-    leaf-effective cs top rest (whole z) (top.place ∷ []) leaves is values (ap is_plain document) (λ k. refl) leaf
-    (λ below. subst (λ (d : Doc). DecidesTop d top rest below (Some (whole z)) (Some (top.place ∷ []))) (sym document) (refl, refl))
+    leaf-effective cs top rest (whole z) (top.position ∷ []) leaves is values (ap is_plain document) (λ k. refl) leaf
+    (λ below. subst (λ (d : Doc). DecidesTop d top rest below (Some (whole z)) (Some (top.position ∷ []))) (sym document) (refl, refl))
 scalar-effective cs top rest (tree.Words s) leaves is values document no_list no_dict leaf =
-    leaf-effective cs top rest (words s) (top.place ∷ []) leaves is values (ap is_plain document) (λ k. refl) leaf
-    (λ below. subst (λ (d : Doc). DecidesTop d top rest below (Some (words s)) (Some (top.place ∷ []))) (sym document) (refl, refl))
+    leaf-effective cs top rest (words s) (top.position ∷ []) leaves is values (ap is_plain document) (λ k. refl) leaf
+    (λ below. subst (λ (d : Doc). DecidesTop d top rest below (Some (words s)) (Some (top.position ∷ []))) (sym document) (refl, refl))
 scalar-effective cs top rest (tree.List ds) leaves is values document no_list no_dict leaf = absurd (no_list ds refl)
 scalar-effective cs top rest (tree.Dict ps) leaves is values document no_list no_dict leaf = absurd (no_dict ps refl)
 
@@ -101,12 +101,12 @@ joined-parts top ds (next ∷ more) k document = refl
 
 pub array-effective : (cs : List Piece) (top : Piece) (rest : List Piece) (ds : Docs) (d : Doc) (leaves : List (List (List ℕ) × List ℕ))
     → cs ≡ top ∷ rest → AreValues cs → top.document ≡ list ds → d ≡ joined top (counting_below top rest)
-    → leaves ≡ ([], places (top ∷ counting_below top rest)) ∷ []
+    → leaves ≡ ([], positions (top ∷ counting_below top rest)) ∷ []
     → (path : List (List ℕ)) → IsEffective cs path (at path d) (origin_at path leaves)
 array-effective cs top rest ds d leaves is values document value leaf =
-    leaf-effective cs top rest d (places (top ∷ counting_below top rest)) leaves is values (ap is_plain document)
+    leaf-effective cs top rest d (positions (top ∷ counting_below top rest)) leaves is values (ap is_plain document)
     (λ k. ap (part_at k) value ∙ joined-parts top ds (counting_below top rest) k document) leaf
-    (λ below. subst (λ (e : Doc). DecidesTop e top rest below (Some d) (Some (places (top ∷ counting_below top rest)))) (sym document) (ap Some value, refl))
+    (λ below. subst (λ (e : Doc). DecidesTop e top rest below (Some d) (Some (positions (top ∷ counting_below top rest)))) (sym document) (ap Some value, refl))
 
 -- ---- a dict
 
@@ -152,7 +152,7 @@ some-below cs f fs leaves all nothing =
 
 empty-effective : (cs : List Piece) (top : Piece) (rest : List Piece) (ps : Pairs) (below_leaves : List (List (List ℕ) × List ℕ)) (d : Doc) (leaves : List (List (List ℕ) × List ℕ))
     → cs ≡ top ∷ rest → AreValues cs → top.document ≡ dict ps → AreEffective cs (dict no_pairs) below_leaves
-    → d ≡ dict no_pairs → leaves ≡ ([], top.place ∷ []) ∷ []
+    → d ≡ dict no_pairs → leaves ≡ ([], top.position ∷ []) ∷ []
     → (path : List (List ℕ)) → IsEffective cs path (at path d) (origin_at path leaves)
 empty-effective cs top rest ps below_leaves d leaves is values document all value leaf [] =
     let below : Below = λ key more. seen (key ∷ more) cs in
@@ -180,7 +180,7 @@ filled-effective cs top rest ps f fs d leaves is values document root all value 
 pub dict-effective : (cs : List Piece) (top : Piece) (rest : List Piece) (ps : Pairs) (fields : List (List ℕ × Doc)) (below_leaves : List (List (List ℕ) × List ℕ)) (d : Doc) (leaves : List (List (List ℕ) × List ℕ))
     → cs ≡ top ∷ rest → AreValues cs → top.document ≡ dict ps → origin_at [] below_leaves ≡ None → AreEffective cs (dict (pairs_of fields)) below_leaves
     → ((fields ≡ [] → ⊥) → (d ≡ dict (pairs_of fields)) × (leaves ≡ below_leaves))
-    → (fields ≡ [] → (d ≡ dict no_pairs) × (leaves ≡ ([], top.place ∷ []) ∷ []))
+    → (fields ≡ [] → (d ≡ dict no_pairs) × (leaves ≡ ([], top.position ∷ []) ∷ []))
     → (path : List (List ℕ)) → IsEffective cs path (at path d) (origin_at path leaves)
 dict-effective cs top rest ps [] below_leaves d leaves is values document root all some none =
     empty-effective cs top rest ps below_leaves d leaves is values document all (none refl).0 (none refl).1

@@ -20,14 +20,14 @@ null_crosses (k ∷ p) = refl
 
 -- ---- what a piece has doesn't depend on the document that the piece has itself
 
-same_with : (c : Piece) (d : Doc) (r : Option Doc) (below : List Piece) → with_value (record { place = c.place; level = c.level; document = d }) r below ≡ with_value c r below
+same_with : (c : Piece) (d : Doc) (r : Option Doc) (below : List Piece) → with_value (record { position = c.position; level = c.level; document = d }) r below ≡ with_value c r below
 same_with c d None below = refl
 same_with c d (Some e) below = refl
 
 -- ---- one key down
 
 through_value : (c : Piece) (p : List (List ℕ)) (rest later : List Piece) (d : Doc) → rest ≡ seen p later
-    → with_value c (at p d) (if crosses p d then [] else rest) ≡ seen p (record { place = c.place; level = c.level; document = d } ∷ later)
+    → with_value c (at p d) (if crosses p d then [] else rest) ≡ seen p (record { position = c.position; level = c.level; document = d } ∷ later)
 through_value c p rest later d e =
     ap (λ (below : List Piece). with_value c (at p d) (if crosses p d then [] else below)) e
     ∙ sym (same_with c d (at p d) (if crosses p d then [] else seen p later))
@@ -82,11 +82,11 @@ values-if false cs h = h
 values-with : (c : Piece) (r : Option Doc) (below : List Piece) → AreValues below → AreValues (with_value c r below)
 values-with c None below h = h
 values-with c (Some null) below h = h
-values-with c (Some (boolean b)) below h = ap (λ (rest : List Piece). record { place = c.place; level = c.level; document = boolean b } ∷ rest) h
-values-with c (Some (whole z)) below h = ap (λ (rest : List Piece). record { place = c.place; level = c.level; document = whole z } ∷ rest) h
-values-with c (Some (words s)) below h = ap (λ (rest : List Piece). record { place = c.place; level = c.level; document = words s } ∷ rest) h
-values-with c (Some (list ds)) below h = ap (λ (rest : List Piece). record { place = c.place; level = c.level; document = list ds } ∷ rest) h
-values-with c (Some (dict ps)) below h = ap (λ (rest : List Piece). record { place = c.place; level = c.level; document = dict ps } ∷ rest) h
+values-with c (Some (boolean b)) below h = ap (λ (rest : List Piece). record { position = c.position; level = c.level; document = boolean b } ∷ rest) h
+values-with c (Some (whole z)) below h = ap (λ (rest : List Piece). record { position = c.position; level = c.level; document = whole z } ∷ rest) h
+values-with c (Some (words s)) below h = ap (λ (rest : List Piece). record { position = c.position; level = c.level; document = words s } ∷ rest) h
+values-with c (Some (list ds)) below h = ap (λ (rest : List Piece). record { position = c.position; level = c.level; document = list ds } ∷ rest) h
+values-with c (Some (dict ps)) below h = ap (λ (rest : List Piece). record { position = c.position; level = c.level; document = dict ps } ∷ rest) h
 
 pub values-children : (k : List ℕ) (cs : List Piece) → AreValues (children k cs)
 values-children k [] = refl
@@ -129,7 +129,7 @@ under-more : (cs : List Piece) (m n : ℕ) → Under cs m → m ≤ n → Under 
 under-more cs m n (inl none) h = inl none
 under-more cs m n (inr less) h = inr (omega arith)
 
-under-one : (c : Piece) (d : Doc) (cs : List Piece) (m n : ℕ) → Under cs m → suc (depth d) ≤ n → Under (record { place = c.place; level = c.level; document = d } ∷ cs) (max n m)
+under-one : (c : Piece) (d : Doc) (cs : List Piece) (m n : ℕ) → Under cs m → suc (depth d) ≤ n → Under (record { position = c.position; level = c.level; document = d } ∷ cs) (max n m)
 under-one c d cs m n (inl none) h = let zero_deep = none-depth cs none in inr (omega (arith, zero_deep))
 under-one c d cs m n (inr less) h = inr (omega arith)
 

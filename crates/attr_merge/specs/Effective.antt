@@ -1,7 +1,7 @@
 -- The effective leaf at a path: its value, and the layers that it comes from.
 use Rattle.std.specs.Prelude.{◌≡◌, ℕ, List, [], ◌∷◌, ◌++◌, Option, Some, None}
 use Rattle.doc_tree.specs.Doc.{Doc, null, boolean, whole, words, list, dict, Pairs, no_pairs}
-use Rattle.attr_merge.specs.Families.{counting_below, joined, places}
+use Rattle.attr_merge.specs.Families.{counting_below, joined, positions}
 use Rattle.attr_merge.specs.Pieces.{Piece, seen}
 
 -- a leaf with this value and this origin
@@ -26,13 +26,13 @@ SomethingBelow below = (key : List ℕ) × (path : List (List ℕ)) × (below ke
 
 -- what the highest value decides, which is never null: a scalar or an array is a leaf, and a dict is the leaf `{}` exactly where nothing is seen below it
 abbrev pub DecidesTop : Doc → Piece → List Piece → Below → Option Doc → Option (List ℕ) → Type 0
-DecidesTop null top rest below value origin = IsLeaf null (top.place ∷ []) value origin
-DecidesTop (boolean b) top rest below value origin = IsLeaf (boolean b) (top.place ∷ []) value origin
-DecidesTop (whole z) top rest below value origin = IsLeaf (whole z) (top.place ∷ []) value origin
-DecidesTop (words s) top rest below value origin = IsLeaf (words s) (top.place ∷ []) value origin
-DecidesTop (list ds) top rest below value origin = IsLeaf (joined top (counting_below top rest)) (places (top ∷ counting_below top rest)) value origin
+DecidesTop null top rest below value origin = IsLeaf null (top.position ∷ []) value origin
+DecidesTop (boolean b) top rest below value origin = IsLeaf (boolean b) (top.position ∷ []) value origin
+DecidesTop (whole z) top rest below value origin = IsLeaf (whole z) (top.position ∷ []) value origin
+DecidesTop (words s) top rest below value origin = IsLeaf (words s) (top.position ∷ []) value origin
+DecidesTop (list ds) top rest below value origin = IsLeaf (joined top (counting_below top rest)) (positions (top ∷ counting_below top rest)) value origin
 DecidesTop (dict ps) top rest below value origin =
-    (NothingBelow below → IsLeaf (dict no_pairs) (top.place ∷ []) value origin) × (SomethingBelow below → IsAboveLeaves value origin)
+    (NothingBelow below → IsLeaf (dict no_pairs) (top.position ∷ []) value origin) × (SomethingBelow below → IsAboveLeaves value origin)
 
 -- what the values at a path decide, highest first: where there are none, there is nothing
 abbrev pub Decides : List Piece → Below → Option Doc → Option (List ℕ) → Type 0

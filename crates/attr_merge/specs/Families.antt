@@ -68,6 +68,6 @@ abbrev pub joined : Piece → List Piece → Doc
 joined top [] = top.document
 joined top (next ∷ more) = list (docs_of (with_elements [] (all_elements (reverse (top ∷ next ∷ more)))))
 
--- the places of these, lowest first
-abbrev pub places : List Piece → List ℕ
-places pieces = map (λ (piece : Piece). piece.place) (reverse pieces)
+-- the positions of these, lowest first
+abbrev pub positions : List Piece → List ℕ
+positions pieces = map (λ (piece : Piece). piece.position) (reverse pieces)

@@ -23,11 +23,11 @@ are_from lowest (layer ∷ layers) = nat_le lowest layer.level && nat_le layer.l
 abbrev pub AreLayers : List Layer → Type 0
 AreLayers layers = IsTrue (are_from 1 layers)
 
--- the layers above others, each with its place, highest first
+-- the layers above others, each with its position, highest first
 abbrev pub stacked : ℕ → List Layer → List Piece → List Piece
-stacked place [] below = below
-stacked place (layer ∷ layers) below =
-    stacked (suc place) layers (record { place = place; level = layer.level; document = doc_of layer.tree } ∷ below)
+stacked position [] below = below
+stacked position (layer ∷ layers) below =
+    stacked (suc position) layers (record { position = position; level = layer.level; document = doc_of layer.tree } ∷ below)
 
 -- the layers, highest first: a later one stands above an earlier one
 abbrev pub highest_first : List Layer → List Piece

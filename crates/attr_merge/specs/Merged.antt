@@ -9,7 +9,7 @@ use Rattle.std.specs.declared.cmp.Ordering.{Ordering}
 use Rattle.doc_tree.specs.Doc.{Doc}
 use Rattle.doc_tree.specs.DocCode.{doc_code}
 
--- a document, and the paths of its leaves, each with the places of the layers that the leaf comes from
+-- a document, and the paths of its leaves, each with the positions of the layers that the leaf comes from
 pub record Effective : Type 0 where
   pub document : Doc
   pub leaves : List (List (List ℕ) × List ℕ)

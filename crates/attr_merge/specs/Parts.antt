@@ -11,7 +11,7 @@ use Rattle.attr_merge.specs.declared.parts.Part.{Part}
 
 -- the piece that a part is
 abbrev pub piece_of : Part → Piece
-piece_of part = record { place = part.place; level = part.level; document = doc_of part.tree.now }
+piece_of part = record { position = part.position; level = part.level; document = doc_of part.tree.now }
 
 -- the pieces that parts are
 abbrev pub pieces_of : List Part → List Piece

@@ -3,9 +3,9 @@ use Rattle.std.specs.Prelude.{ℕ, List, [], ◌∷◌, Bool, true, false, ◌||
 use Rattle.doc_tree.specs.Doc.{Doc, null, boolean, whole, words, list, dict}
 use Rattle.doc_tree.specs.Part.{at, part_at}
 
--- a document that a layer has somewhere: the layer's place among all layers, its level, and the document
+-- a document that a layer has somewhere: the layer's position among all layers, its level, and the document
 pub record Piece : Type 0 where
-  pub place : ℕ
+  pub position : ℕ
   pub level : ℕ
   pub document : Doc
 
@@ -40,7 +40,7 @@ crosses (key ∷ path) d = is_plain d || if_there (crosses path) (part_at key d)
 -- these pieces, and above them what the layer of this one has, where that is a value
 abbrev pub with_value : Piece → Option Doc → List Piece → List Piece
 with_value piece None below = below
-with_value piece (Some d) below = if is_null d then below else record { place = piece.place; level = piece.level; document = d } ∷ below
+with_value piece (Some d) below = if is_null d then below else record { position = piece.position; level = piece.level; document = d } ∷ below
 
 -- the values at a path, highest first, of the layers that aren't cut there: a layer that crosses the path cuts each that is below it
 abbrev pub seen : List (List ℕ) → List Piece → List Piece

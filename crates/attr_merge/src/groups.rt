@@ -69,7 +69,7 @@ fn add_field<'a>(
         return Ok(());
     }
     let found = Part {
-        place: part.place,
+        position: part.position,
         level: part.level,
         tree: &field.tree,
     };

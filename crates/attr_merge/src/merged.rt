@@ -17,7 +17,7 @@ use std::marker::Model;
 pub type Leaves = Listed<Texts>;
 
 /// Merged attributes. Contracts see the document that they are, and the paths of its leaves in order, each with the
-/// places of the layers that the leaf comes from.
+/// positions of the layers that the leaf comes from.
 #[derive(Drop)]
 pub struct Merged {
     tree: Tree,
@@ -46,13 +46,13 @@ impl Merged {
         self.tree.at(path)
     }
 
-    /// The origin of the leaf at a path, without memory: the places of the layers that it comes from, rising, the
+    /// The origin of the leaf at a path, without memory: the positions of the layers that it comes from, rising, the
     /// first layer's being 0. `None` exactly where no leaf is.
     pub fn origin(&self, path: &[Text]) -> Option<&[usize]>
-        ensures { option_map (λ places. places.now) result ≡ origin_at path.now self.now.leaves }
+        ensures { option_map (λ positions. positions.now) result ≡ origin_at path.now self.now.leaves }
     {
         match self.leaves.get(path) {
-            Some(places) => Some(places.as_slice()),
+            Some(positions) => Some(positions.as_slice()),
             None => None,
         }
     }

@@ -1,7 +1,7 @@
 //! The merge of layers.
 ghost use Rattle.attr_merge.specs.Children.{AreValues, pieces_depth};
 ghost use Rattle.attr_merge.specs.Effective.{IsEffective};
-ghost use Rattle.attr_merge.specs.Families.{all_elements, counting_below, joined, places};
+ghost use Rattle.attr_merge.specs.Families.{all_elements, counting_below, joined, positions};
 ghost use Rattle.attr_merge.specs.Elements.{with_elements};
 ghost use Rattle.attr_merge.specs.Layers.{AreLayers};
 ghost use Rattle.attr_merge.specs.Merge.{AreEffective, IsMergeOf};
@@ -18,7 +18,7 @@ use crate::groups::grouped;
 use crate::layers::Layer;
 use crate::merged::Merged;
 use crate::nodes::{Inner, Node};
-use crate::parts::{Part, counting, parts_of, places};
+use crate::parts::{Part, counting, parts_of, positions};
 use doc_tree::{NoMemory, Tree, Trees};
 use std::alloc::Global;
 
@@ -80,11 +80,11 @@ fn merge_dicts(alloc: Global, parts: &[Part]) -> Result<Inner, NoMemory>
 // A dict with fields, or the leaf `{}`.
 fn dict_node(alloc: Global, top: &Part, inner: Inner) -> Result<Node, NoMemory>
     ensures some { IfOk result (λ node. (inner.fields ≡ [] → ⊥) → (doc_of node.tree ≡ dict (pairs_of inner.fields)) × (node.leaves ≡ inner.leaves)) }
-    ensures none { IfOk result (λ node. inner.fields ≡ [] → (doc_of node.tree ≡ dict no_pairs) × (leaves_of node.leaves.items ≡ ([], top.now.place ∷ []) ∷ [])) }
+    ensures none { IfOk result (λ node. inner.fields ≡ [] → (doc_of node.tree ≡ dict no_pairs) × (leaves_of node.leaves.items ≡ ([], top.now.position ∷ []) ∷ [])) }
 {
     let Inner { fields, leaves } = inner;
     if fields.is_empty() {
-        Node::leaf(alloc, Tree::Dict(fields), one_place(alloc, top)?)
+        Node::leaf(alloc, Tree::Dict(fields), one_position(alloc, top)?)
     } else {
         Ok(Node {
             tree: Tree::Dict(fields),
@@ -95,26 +95,26 @@ fn dict_node(alloc: Global, top: &Part, inner: Inner) -> Result<Node, NoMemory>
 
 // A value that is a leaf by itself.
 fn scalar_node(alloc: Global, top: &Part) -> Result<Node, NoMemory>
-    ensures { IfOk result (λ node. (node.tree ≡ top.now.tree.now) × (leaves_of node.leaves.items ≡ ([], top.now.place ∷ []) ∷ [])) }
+    ensures { IfOk result (λ node. (node.tree ≡ top.now.tree.now) × (leaves_of node.leaves.items ≡ ([], top.now.position ∷ []) ∷ [])) }
 {
-    Node::leaf(alloc, top.tree.copy(alloc)?, one_place(alloc, top)?)
+    Node::leaf(alloc, top.tree.copy(alloc)?, one_position(alloc, top)?)
 }
 
-fn one_place(alloc: Global, top: &Part) -> Result<Vec<usize>, NoMemory>
-    ensures { IfOk result (λ found. found.items ≡ top.now.place ∷ []) }
+fn one_position(alloc: Global, top: &Part) -> Result<Vec<usize>, NoMemory>
+    ensures { IfOk result (λ found. found.items ≡ top.now.position ∷ []) }
 {
     let mut found = Vec::with_capacity(alloc, 1)?;
-    found.push(top.place)?;
+    found.push(top.position)?;
     Ok(found)
 }
 
 // The leaf that an array makes with the arrays that count below it.
 fn merge_arrays<'a>(alloc: Global, top: &Part<'a>, below: &[Part<'a>]) -> Result<Node, NoMemory>
     ensures { IfOk result (λ node. let counting = counting_below (piece_of top.now) (pieces_of below.now) in
-        (doc_of node.tree ≡ joined (piece_of top.now) counting) × (leaves_of node.leaves.items ≡ ([], places (piece_of top.now ∷ counting)) ∷ [])) }
+        (doc_of node.tree ≡ joined (piece_of top.now) counting) × (leaves_of node.leaves.items ≡ ([], positions (piece_of top.now ∷ counting)) ∷ [])) }
 {
     let arrays = counting(alloc, top, below)?;
-    let origin = places(alloc, &arrays)?;
+    let origin = positions(alloc, &arrays)?;
     let tree = if arrays.len() < 2 {
         top.tree.copy(alloc)?
     } else {

@@ -7,7 +7,7 @@ ghost use Rattle.std.specs.Prelude.{◌≡◌, ◌∷◌, ◌++◌, [], IfOk, On
 use doc_tree::{Fields, NoMemory, Text, Tree};
 use std::alloc::Global;
 
-/// A leaf: its path from where it was found, and the places of the layers that it comes from.
+/// A leaf: its path from where it was found, and the positions of the layers that it comes from.
 #[derive(Drop)]
 pub(crate) struct Leaf {
     pub(crate) path: Vec<Text>,

@@ -1,5 +1,5 @@
 //! What the layers have at one path, while they are merged.
-ghost use Rattle.attr_merge.specs.Families.{arrays_above, counting_below, is_array, places};
+ghost use Rattle.attr_merge.specs.Families.{arrays_above, counting_below, is_array, positions};
 ghost use Rattle.attr_merge.specs.Layers.{highest_first};
 ghost use Rattle.attr_merge.specs.Parts.{piece_of, pieces_of};
 ghost use Rattle.attr_merge.specs.Pieces.{is_null, is_plain};
@@ -11,11 +11,11 @@ use crate::layers::Layer;
 use doc_tree::{NoMemory, Tree};
 use std::alloc::Global;
 
-/// What a layer has at a path: the layer's place and level, and its tree there. Lists of parts have the highest
+/// What a layer has at a path: the layer's position and level, and its tree there. Lists of parts have the highest
 /// layer first.
 #[derive(Clone, Copy, Drop)]
 pub(crate) struct Part<'a> {
-    pub(crate) place: usize,
+    pub(crate) position: usize,
     pub(crate) level: u8,
     pub(crate) tree: &'a Tree,
 }
@@ -25,9 +25,9 @@ pub(crate) fn parts_of<'a>(alloc: Global, layers: &'a [Layer]) -> Result<Vec<Par
     ensures { IfOk result (λ parts. pieces_of parts.items ≡ highest_first layers.now) }
 {
     let mut parts = Vec::with_capacity(alloc, layers.len())?;
-    for (place, layer) in layers.iter().enumerate() {
+    for (position, layer) in layers.iter().enumerate() {
         parts.push(Part {
-            place,
+            position,
             level: layer.level,
             tree: &layer.tree,
         })?;
@@ -101,13 +101,13 @@ fn add_arrays<'a>(
     Ok(())
 }
 
-/// The places of parts, lowest first.
-pub(crate) fn places(alloc: Global, parts: &[Part]) -> Result<Vec<usize>, NoMemory>
-    ensures { IfOk result (λ found. found.items ≡ places (pieces_of parts.now)) }
+/// The positions of parts, lowest first.
+pub(crate) fn positions(alloc: Global, parts: &[Part]) -> Result<Vec<usize>, NoMemory>
+    ensures { IfOk result (λ found. found.items ≡ positions (pieces_of parts.now)) }
 {
     let mut found = Vec::with_capacity(alloc, parts.len())?;
     for part in parts {
-        found.push(part.place)?;
+        found.push(part.position)?;
     }
     found.reverse();
     Ok(found)

@@ -342,16 +342,16 @@ fn path_tree(alloc: Global, path: &[Text]) -> Result<Tree, NoMemory> {
     Ok(Tree::List(keys))
 }
 
-// Tells the layers at these places, by level and name.
+// Tells the layers at these positions, by level and name.
 fn tell_sources(
     alloc: Global,
     told: &mut String,
     layers: &[Layer],
-    places: &[usize],
+    positions: &[usize],
 ) -> Result<(), NoMemory> {
     let mut sign = " <- ";
-    for place in places {
-        if let Some(layer) = layers.get(*place) {
+    for position in positions {
+        if let Some(layer) = layers.get(*position) {
             let (level, name) = (layer.level, layer.name.as_str());
             told.push_str(format!(in alloc; "{sign}{level} {name}")?.as_str())?;
             sign = ", ";

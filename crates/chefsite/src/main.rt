@@ -19,6 +19,7 @@ ghost use Rattle.std.specs.Prelude.{◌≡◌, ◌⊎◌, ◌↔◌, ◌<◌, If
 ghost use Rattle.std.specs.Vec.Iter.{into_iter_items};
 ghost use Rattle.chefsite.specs.Theorems.{Performed, Ran};
 ghost use Rattle.chefsite.specs.Exits.{Ends, EndsNoted, EndsAsRan};
+ghost use Rattle.chefsite.specs.Notes.{IsNoted};
 
 use answer::answer;
 use doc_tree::{NoMemory, Steps, Text};
@@ -123,7 +124,7 @@ fn main(rt: HostRuntime) -> ExitCode {
             &mut notes,
             &mut files,
         ),
-        Err(status) => end_before(&mut notes, status),
+        Err(status) => end_before(&mut notes, status, ""),
     }
 }
 
@@ -136,15 +137,15 @@ fn with_streams<R: RandomSource + AllocGlobal, I: Read + Drop, U: Write + Drop, 
     notes: &mut N,
     files: &mut F,
 ) -> ExitCode
-    ensures { EndsNoted result
+    ensures { EndsNoted result words.now
         (record { old = N.gained notes.old; new = N.gained notes.new; faults_before = N.faults notes.old; faults_after = N.faults notes.new }) }
 {
     let Ok(reader) = BufReader::new(rt.alloc(), input) else {
-        return end_before(notes, Status::NoMemory);
+        return end_before(notes, Status::NoMemory, file_in(words));
     };
     // Keys of its own for the maps, so that nobody can choose names that collide in them.
     let Ok(hasher) = RandomState::new(rt) else {
-        return end_before(notes, Status::NoMemory);
+        return end_before(notes, Status::NoMemory, file_in(words));
     };
     let mut input = Reading::new(reader);
     let mut output = Writing::new(output);
@@ -196,12 +197,11 @@ fn exit_with(status: Status) -> ExitCode
 }
 
 // Ends before anything is run, with the number of a status that is noted.
-fn end_before<N: Sink>(notes: &mut N, status: Status) -> ExitCode
-    ensures noted { EndsNoted result
-        (record { old = N.gained notes.old; new = N.gained notes.new; faults_before = N.faults notes.old; faults_after = N.faults notes.new }) }
+fn end_before<N: Sink>(notes: &mut N, status: Status, file: &str) -> ExitCode
+    ensures noted { IsNoted status file.now (N.gained notes.old) (N.gained notes.new) (N.faults notes.old) (N.faults notes.new) }
     ensures number { Ends result status }
 {
-    note(notes, status, "");
+    note(notes, status, file);
     exit_with(status)
 }
 

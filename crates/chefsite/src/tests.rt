@@ -189,9 +189,9 @@ fn another_organisation_in_between_changes_nothing(rt: HostRuntime) -> Result<()
     for order in 0..64_u32 {
         if order.count_ones() == 3 {
             let mut stream = Stream::new(alloc);
-            for place in 0..6_u32 {
-                let before = (1_u32 << place) - 1;
-                let (asked, told) = if order >> place & 1 == 1 {
+            for turn in 0..6_u32 {
+                let before = (1_u32 << turn) - 1;
+                let (asked, told) = if order >> turn & 1 == 1 {
                     first_path(alloc, "acme", (order & before).count_ones())?
                 } else {
                     first_path(alloc, "beta", (!order & before).count_ones())?

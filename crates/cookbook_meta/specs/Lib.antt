@@ -5,7 +5,7 @@ pub mod Entries
 pub mod Gathered
 pub mod Segments
 pub mod Fields
-pub mod Rules
+pub mod Rows
 pub mod Stored
 pub mod Manifests
 pub mod Outcomes

@@ -4,7 +4,7 @@ ghost use Rattle.doc_tree.specs.Doc.{pairs_of};
 ghost use Rattle.doc_tree.specs.Tree.{doc_of};
 ghost use Rattle.cookbook_meta.specs.Fields as spec;
 ghost use Rattle.cookbook_meta.specs.Outcomes.{Gives};
-ghost use Rattle.cookbook_meta.specs.Rules.{form_of, row_of};
+ghost use Rattle.cookbook_meta.specs.Rows.{form_of, row_of};
 
 use crate::fault::{Flaw, MetaFault, in_field};
 use crate::parts::{text_of, version_of};
@@ -25,7 +25,7 @@ pub(crate) enum Form<'a> {
 
 /// A field that tells which cookbook's version a manifest is.
 #[derive(Clone, Copy, Drop)]
-pub(crate) struct Rule<'a> {
+pub(crate) struct Row<'a> {
     pub(crate) key: &'static str,
     pub(crate) must: bool,
     pub(crate) form: Form<'a>,
@@ -39,31 +39,31 @@ pub(crate) fn release_name(alloc: Global, name: &Name, version: Version) -> Resu
 }
 
 /// The fields that tell which cookbook's version a manifest is, in the order in which they are looked at.
-pub(crate) fn told_by<'a>(name: &'a str, release: &'a str, version: Version) -> [Rule<'a>; 5]
+pub(crate) fn told_by<'a>(name: &'a str, release: &'a str, version: Version) -> [Row<'a>; 5]
     ensures { map row_of result ≡ spec.rows name.now release.now version }
 {
     [
-        Rule {
+        Row {
             key: "cookbook_name",
             must: false,
             form: Form::Named(name),
         },
-        Rule {
+        Row {
             key: "name",
             must: false,
             form: Form::Named(release),
         },
-        Rule {
+        Row {
             key: "version",
             must: true,
             form: Form::Released(version),
         },
-        Rule {
+        Row {
             key: "chef_type",
             must: false,
             form: Form::Stated("cookbook_version"),
         },
-        Rule {
+        Row {
             key: "json_class",
             must: false,
             form: Form::Stated("Chef::CookbookVersion"),
@@ -71,27 +71,23 @@ pub(crate) fn told_by<'a>(name: &'a str, release: &'a str, version: Version) -> 
     ]
 }
 
-/// Whether each field is as its rule asks, or the fault of the first that isn't.
-pub(crate) fn are_as_asked(
-    alloc: Global,
-    rules: &[Rule<'_>],
-    body: &Fields,
-) -> Result<(), MetaFault>
-    ensures { Gives result (spec.are_as_asked (map row_of rules.now) (pairs_of body.now)) }
+/// Whether each field is as its row asks, or the fault of the first that isn't.
+pub(crate) fn are_as_asked(alloc: Global, rows: &[Row<'_>], body: &Fields) -> Result<(), MetaFault>
+    ensures { Gives result (spec.are_as_asked (map row_of rows.now) (pairs_of body.now)) }
 {
-    for rule in rules {
-        in_field(alloc, rule.key, is_as_asked(rule, body.get(rule.key)))?;
+    for row in rows {
+        in_field(alloc, row.key, is_as_asked(row, body.get(row.key)))?;
     }
     Ok(())
 }
 
-fn is_as_asked(rule: &Rule<'_>, found: Option<&Tree>) -> Result<(), Flaw>
-    ensures { result ≡ spec.is_as_asked (row_of rule.now) (option_map (λ t. doc_of t.now) found.entry) }
+fn is_as_asked(row: &Row<'_>, found: Option<&Tree>) -> Result<(), Flaw>
+    ensures { result ≡ spec.is_as_asked (row_of row.now) (option_map (λ t. doc_of t.now) found.entry) }
 {
     match found {
-        Some(tree) => has_form(rule.form, tree),
+        Some(tree) => has_form(row.form, tree),
         None => {
-            if rule.must {
+            if row.must {
                 Err(Flaw::MissingField)
             } else {
                 Ok(())

@@ -38,7 +38,7 @@ abbrev pub rest_of : List (List ℕ) → List (List ℕ)
 rest_of [] = []
 rest_of (segment ∷ rest) = rest
 
--- the segment at this place of a path, counted from 0
+-- the segment at this position of a path, counted from 0
 abbrev pub nth_segment : ℕ → List (List ℕ) → List ℕ
 nth_segment zero segments = first_of segments
 nth_segment (suc n) segments = nth_segment n (rest_of segments)

@@ -24,10 +24,10 @@ abbrev pub layer_text : Option Layer → List ℕ
 layer_text None = []
 layer_text (Some layer) = text (whole (pos layer.level)) ++ (codes " " ++ layer.name)
 
--- the layers at these places, with commas between
+-- the layers at these positions, with commas between
 abbrev pub origin_text : List Layer → Bool → List ℕ → List ℕ
 origin_text layers later [] = []
-origin_text layers later (place ∷ places) = (if later then codes ", " else []) ++ (layer_text (slice_get layers place) ++ origin_text layers true places)
+origin_text layers later (position ∷ positions) = (if later then codes ", " else []) ++ (layer_text (slice_get layers position) ++ origin_text layers true positions)
 
 -- the line of a leaf: `PATH = VALUE <- LEVEL NAME, LEVEL NAME`
 abbrev pub line : List Layer → Effective → List (List ℕ) → List ℕ

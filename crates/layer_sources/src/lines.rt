@@ -96,51 +96,51 @@ fn add_origin(
     ensures { OnOk result (out.new.items ≡ out.old.items ++ spec.origin_text layers.now false (unwrap_or (origin_at path.now merged.now.leaves) [])) }
 {
     match merged.origin(path) {
-        Some(places) => add_places(alloc, out, layers, places),
+        Some(positions) => add_positions(alloc, out, layers, positions),
         None => Ok(()),
     }
 }
 
-fn add_places(
+fn add_positions(
     alloc: Global,
     out: &mut Vec<u8>,
     layers: &[Layer],
-    places: &[usize],
+    positions: &[usize],
 ) -> Result<(), NoMemory>
-    ensures { OnOk result (out.new.items ≡ out.old.items ++ spec.origin_text layers.now false places.now) }
+    ensures { OnOk result (out.new.items ≡ out.old.items ++ spec.origin_text layers.now false positions.now) }
 {
     let mut later = false;
-    for place in places {
-        add_place(alloc, out, layers, later, *place)?;
+    for position in positions {
+        add_position(alloc, out, layers, later, *position)?;
         later = true;
     }
     Ok(())
 }
 
-fn add_place(
+fn add_position(
     alloc: Global,
     out: &mut Vec<u8>,
     layers: &[Layer],
     later: bool,
-    place: usize,
+    position: usize,
 ) -> Result<(), NoMemory>
-    ensures { OnOk result (out.new.items ≡ out.old.items ++ ((if later then codes ", " else []) ++ spec.layer_text (slice_get layers.now place))) }
+    ensures { OnOk result (out.new.items ≡ out.old.items ++ ((if later then codes ", " else []) ++ spec.layer_text (slice_get layers.now position))) }
 {
     if later {
         add(out, b", ")?;
     }
-    add_layer_at(alloc, out, layers, place)
+    add_layer_at(alloc, out, layers, position)
 }
 
 fn add_layer_at(
     alloc: Global,
     out: &mut Vec<u8>,
     layers: &[Layer],
-    place: usize,
+    position: usize,
 ) -> Result<(), NoMemory>
-    ensures { OnOk result (out.new.items ≡ out.old.items ++ spec.layer_text (slice_get layers.now place)) }
+    ensures { OnOk result (out.new.items ≡ out.old.items ++ spec.layer_text (slice_get layers.now position)) }
 {
-    match layers.get(place) {
+    match layers.get(position) {
         Some(layer) => add_layer(alloc, out, layer),
         None => Ok(()),
     }

@@ -18,7 +18,7 @@ use Rattle.object_forms.specs.declared.fault.FormFault.{FormFault}
 use Rattle.object_forms.specs.Forms.{is_text, name_from}
 use Rattle.object_forms.specs.Groups.{group_key, group_name, members_from, actors_doc, actors_of, actors_from, nobody, sent_actors, group_actors, group_doc, group_with, group_named, group_in, group_from}
 use Rattle.object_forms.specs.Kinds.{is_group}
-use Rattle.object_forms.specs.Objects.{name_in, NamedBy, IsNamed}
+use Rattle.object_forms.specs.Objects.{name_in, NamedBy, HasName}
 use Rattle.object_forms.specs.Outcomes.{Gives}
 use Rattle.object_forms.proofs.NamedLemmas.{same_Ok}
 
@@ -53,17 +53,17 @@ named_by (Some path) found name known is =
     let same = path_is path found name is in
     ap (λ b. cond b (Some name) None) (ap is_name (sym same) ∙ known) ∙ ap Some (sym same)
 
-with_actors : (path : Option (List ℕ)) (name : List ℕ) (actors : Option Doc) (d : Doc) → NamedBy path (cond (is_name name) (Some name) None) → group_with actors name ≡ Ok d → IsNamed Group path d
+with_actors : (path : Option (List ℕ)) (name : List ℕ) (actors : Option Doc) (d : Doc) → NamedBy path (cond (is_name name) (Some name) None) → group_with actors name ≡ Ok d → HasName Group path d
 with_actors path name None d named is = cc
-with_actors path name (Some actors) d named is = subst (IsNamed Group path) (same_Ok _ _ is) named
+with_actors path name (Some actors) d named is = subst (HasName Group path) (same_Ok _ _ is) named
 
 with_name : (path : Option (List ℕ)) (found : Option (List ℕ)) (key : List ℕ) (actors : Option Doc) (d : Doc) → ((name : List ℕ) → found ≡ Some name → NamedBy path (cond (is_name name) (Some name) None))
-    → group_named found key actors ≡ Ok d → IsNamed Group path d
+    → group_named found key actors ≡ Ok d → HasName Group path d
 with_name path None key actors d named is = cc
 with_name path (Some name) key actors d named is = with_actors path name actors d (named name refl) is
 
 -- a group that was read has its name
-pub named_doc : (path : Option (List ℕ)) (body d : Doc) → IfSome path (λ n. IsTrue (is_name n)) → group_from path body ≡ Ok d → IsNamed Group path d
+pub named_doc : (path : Option (List ℕ)) (body d : Doc) → IfSome path (λ n. IsTrue (is_name n)) → group_from path body ≡ Ok d → HasName Group path d
 named_doc path null d known is = cc
 named_doc path (boolean b) d known is = cc
 named_doc path (whole z) d known is = cc
@@ -72,13 +72,13 @@ named_doc path (list ds) d known is = cc
 named_doc path (dict ps) d known is =
     with_name path (group_name path (pair_at (group_key ps) ps)) (group_key ps) (group_actors path ps) d (λ name. named_by path (pair_at (group_key ps) ps) name known) is
 
-named_result : (path : Option (List ℕ)) (body : Doc) (result : Result Tree FormFault) → IfSome path (λ n. IsTrue (is_name n)) → Gives result (group_from path body) → IfOk result (λ t. IsNamed Group path (doc_of t))
+named_result : (path : Option (List ℕ)) (body : Doc) (result : Result Tree FormFault) → IfSome path (λ n. IsTrue (is_name n)) → Gives result (group_from path body) → IfOk result (λ t. HasName Group path (doc_of t))
 named_result path body (Ok tree) known gives = named_doc path body (doc_of tree) known gives
 named_result path body (Err cause) known gives = tt
 
 -- a group that was read has its name
 pub named_group : (kind : Kind) (path : Option (List ℕ)) (body : Doc) (result : Result Tree FormFault) → is_group kind ≡ true → IfSome path (λ n. IsTrue (is_name n)) → Gives result (group_from path body)
-    → IfOk result (λ t. IsNamed kind path (doc_of t))
+    → IfOk result (λ t. HasName kind path (doc_of t))
 named_group Org path body result is known gives = cc
 named_group Node path body result is known gives = cc
 named_group Role path body result is known gives = cc

@@ -14,7 +14,7 @@ use Rattle.object_forms.specs.Fields.{Row, Absent, fault, nothing, stands, unsen
 use Rattle.object_forms.specs.Forms as forms
 use Rattle.object_forms.specs.Forms.{stored, kept, is_text, is_id, name_from}
 use Rattle.object_forms.specs.Kinds.{table, is_item}
-use Rattle.object_forms.specs.Objects.{key_of, name_row, name_form, rows, beside, made_of, object_in, NamedBy, IsNamed}
+use Rattle.object_forms.specs.Objects.{key_of, name_row, name_form, rows, beside, made_of, object_in, NamedBy, HasName}
 use Rattle.object_forms.specs.Outcomes.{Gives}
 use Rattle.object_forms.specs.declared.fault.FormFault.{FormFault}
 use Rattle.object_forms.proofs.PairLemmas.{pair_at-own, pair_at-other}
@@ -153,19 +153,19 @@ apart Sandbox = refl
 apart File = refl
 
 named_fields : (kind : Kind) (name : Option (List ℕ)) (body : Pairs) (start out : List (List ℕ × Doc)) (step : Result (List (List ℕ × Doc)) (List ℕ)) → IfSome name (λ n. IsTrue (is_name n))
-    → taken (name_row kind name) (pair_at (name_row kind name).name body) start ≡ step → then_do step (fields_of (unwrap_or (table kind) []) body) ≡ Ok out → IsNamed kind name (dict (pairs_of out))
+    → taken (name_row kind name) (pair_at (name_row kind name).name body) start ≡ step → then_do step (fields_of (unwrap_or (table kind) []) body) ≡ Ok out → HasName kind name (dict (pairs_of out))
 named_fields kind name body start out (Err field) known here is = cc
 named_fields kind name body start out (Ok made) known here is =
     subst (λ (found : Option Doc). NamedBy name (option_and_then name_from found)) (sym (kept-fields (key_of kind) _ body made out (apart kind) is))
     (row_named kind name (pair_at (name_row kind name).name body) start made known here)
 
 pub named_made : (kind : Kind) (name : Option (List ℕ)) (body : Pairs) (made : Result (List (List ℕ × Doc)) (List ℕ)) (d : Doc) → IfSome name (λ n. IsTrue (is_name n))
-    → fields_of (rows kind name) body (beside kind body) ≡ made → made_of made ≡ Ok d → IsNamed kind name d
+    → fields_of (rows kind name) body (beside kind body) ≡ made → made_of made ≡ Ok d → HasName kind name d
 named_made kind name body (Err field) d known here is = cc
-named_made kind name body (Ok out) d known here is = subst (IsNamed kind name) (same_Ok _ _ is) (named_fields kind name body (beside kind body) out _ known refl here)
+named_made kind name body (Ok out) d known here is = subst (HasName kind name) (same_Ok _ _ is) (named_fields kind name body (beside kind body) out _ known refl here)
 
 -- an object that was read has its name
 pub named_object : (kind : Kind) (name : Option (List ℕ)) (body : Pairs) (result : Result Tree FormFault) → IfSome name (λ n. IsTrue (is_name n)) → Gives result (object_in kind name body)
-    → IfOk result (λ t. IsNamed kind name (doc_of t))
+    → IfOk result (λ t. HasName kind name (doc_of t))
 named_object kind name body (Ok tree) known gives = named_made kind name body _ (doc_of tree) known refl gives
 named_object kind name body (Err cause) known gives = tt

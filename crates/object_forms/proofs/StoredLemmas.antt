@@ -8,13 +8,13 @@ use Rattle.doc_tree.specs.declared.kind.Kind.{Kind}
 use Rattle.doc_tree.specs.declared.kind.Kind.TheVariants.{Org, Node, Role, Environment, Bag, Client, User, Group, Container, Item, Cookbook, Artifact, Policy, PolicyGroup, Acl, Sandbox, File}
 use Rattle.object_forms.specs.Fields.{sent, taken, then_do, fields_of}
 use Rattle.object_forms.specs.Forms.{an_id, stored, kept, is_text, is_id, name_from}
-use Rattle.object_forms.specs.Objects.{key_of, name_row, is_no_id, made_of, object_of, object_from, by_table, body_of, name_in, IsNamed}
+use Rattle.object_forms.specs.Objects.{key_of, name_row, is_no_id, made_of, object_of, object_from, by_table, body_of, name_in, HasName}
 use Rattle.object_forms.proofs.GroupLemmas.{named_doc}
 use Rattle.object_forms.proofs.NamedLemmas.{same_Ok, named_made}
 use Rattle.object_forms.proofs.PairLemmas.{pair_at-own}
 use Rattle.object_forms.proofs.SettledLemmas.{kept_test}
 
-named_of : (kind : Kind) (path : Option (List ℕ)) (body object : Doc) → IfSome path (λ n. IsTrue (is_name n)) → object_of kind path body ≡ Ok object → IsNamed kind path object
+named_of : (kind : Kind) (path : Option (List ℕ)) (body object : Doc) → IfSome path (λ n. IsTrue (is_name n)) → object_of kind path body ≡ Ok object → HasName kind path object
 named_of kind path null object known is = cc
 named_of kind path (boolean b) object known is = cc
 named_of kind path (whole z) object known is = cc
@@ -26,12 +26,12 @@ not_refused : (refused : Bool) (field : List ℕ) (read : Result Doc (List ℕ))
 not_refused true field read object is = cc
 not_refused false field read object is = (refl, is)
 
-named_by_table : (kind : Kind) (path : Option (List ℕ)) (body object : Doc) → IfSome path (λ n. IsTrue (is_name n)) → by_table kind path body ≡ Ok object → IsNamed kind path object
+named_by_table : (kind : Kind) (path : Option (List ℕ)) (body object : Doc) → IfSome path (λ n. IsTrue (is_name n)) → by_table kind path body ≡ Ok object → HasName kind path object
 named_by_table kind path body object known is =
     named_of kind path (body_of kind body) object known (not_refused (is_no_id kind path) (key_of kind) (object_of kind path (body_of kind body)) object is).1
 
 -- an object that was read has its name
-pub named_from : (kind : Kind) (path : Option (List ℕ)) (body object : Doc) → IfSome path (λ n. IsTrue (is_name n)) → object_from kind path body ≡ Ok object → IsNamed kind path object
+pub named_from : (kind : Kind) (path : Option (List ℕ)) (body object : Doc) → IfSome path (λ n. IsTrue (is_name n)) → object_from kind path body ≡ Ok object → HasName kind path object
 named_from Org path body object known is = named_by_table Org path body object known is
 named_from Node path body object known is = named_by_table Node path body object known is
 named_from Role path body object known is = named_by_table Role path body object known is

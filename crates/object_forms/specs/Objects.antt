@@ -95,5 +95,5 @@ NamedBy None found = IsTrue (is_some found)
 NamedBy (Some name) found = found ≡ Some name
 
 -- an object has a Name, and the path's where there is one
-abbrev pub IsNamed : Kind → Option (List ℕ) → Doc → Type 0
-IsNamed kind name d = NamedBy name (name_in kind d)
+abbrev pub HasName : Kind → Option (List ℕ) → Doc → Type 0
+HasName kind name d = NamedBy name (name_in kind d)

@@ -38,7 +38,7 @@ pub fn read_object(
 ) -> Result<Tree, FormFault>
     requires { kinds.IsFormed kind }
     ensures object { Gives result (spec.object_from kind (option_copied name.entry) (doc_of tree.now)) }
-    ensures named { IfOk result (λ t. spec.IsNamed kind (option_copied name.entry) (doc_of t)) }
+    ensures named { IfOk result (λ t. spec.HasName kind (option_copied name.entry) (doc_of t)) }
 {
     let no_id = is_no_id(kind, name);
     if is_group(kind) {

@@ -11,7 +11,7 @@ use Rattle.doc_tree.specs.declared.kind.Kind.{Kind}
 use Rattle.doc_tree.specs.declared.kind.Kind.TheVariants as kinds
 use Rattle.object_forms.specs.Forms.{is_id, name_from}
 use Rattle.object_forms.specs.Kinds.{is_item}
-use Rattle.object_forms.specs.Objects.{object_from, key_of, name_in, IsNamed as HasName}
+use Rattle.object_forms.specs.Objects.{object_from, key_of, name_in, HasName}
 use Rattle.object_forms.proofs.ReadBackLemmas.{reads_back}
 use Rattle.object_forms.proofs.StoredLemmas.{named_from, id_from}
 use Rattle.object_store.specs.Items.{item_name, ids_in}

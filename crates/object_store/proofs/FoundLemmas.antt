@@ -10,10 +10,10 @@ use Rattle.indexmap.specs.IndexMap.{get_by_text}
 use Rattle.doc_tree.specs.declared.kind.Kind.TheVariants as kind
 use Rattle.object_store.specs.declared.key.Key.{Key}
 use Rattle.object_store.specs.Keys.{key}
-use Rattle.object_store.specs.Places.{shelf_of, name_on, key_at, holds_items}
+use Rattle.object_store.specs.Shelving.{shelf_of, name_on, key_at, holds_items}
 use Rattle.object_store.specs.Kept.{Shelf, Shelves, tree_on, settled, item_on, item_among}
 use Rattle.object_store.proofs.ItemsLemmas.{some-same}
-use Rattle.object_store.proofs.PlacesLemmas.{key_at-place, item-held}
+use Rattle.object_store.proofs.ShelvingLemmas.{key_at-shelved, item-held}
 
 or-true : (a : Bool) → (a || true) ≡ true
 or-true true = refl
@@ -56,7 +56,7 @@ item-found shelves name there =
     ∙ ap (λ b. b && list_any (item_on word name) (keys_of shelf.0.entries)) (item-held name)
     ∙ any-key (λ n. bytes_eq its (string_bytes n)) (item_on word name) shelf.0.entries shelf.2
     (λ n same. (bytes_decides name (key_at word (string_bytes n)).name).1
-    (sym (ap (λ t. (key_at word t).name) (sym ((bytes_decides its (string_bytes n)).0 same)) ∙ ap (λ (k : Key). k.name) (key_at-place (key kind.Item name))))))
+    (sym (ap (λ t. (key_at word t).name) (sym ((bytes_decides its (string_bytes n)).0 same)) ∙ ap (λ (k : Key). k.name) (key_at-shelved (key kind.Item name))))))
 
 -- a name that passes is added, and one that doesn't isn't
 pub added-where : (f : List ℕ → Bool) (whole name : List ℕ) (before : Bool) → f whole ≡ true → (before || bytes_eq name whole) ≡ (before || (bytes_eq name whole && f name))

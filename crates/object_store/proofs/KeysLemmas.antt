@@ -10,7 +10,7 @@ use Rattle.std.specs.Map.{lookup}
 use Rattle.doc_tree.specs.declared.kind.Kind.{Kind}
 use Rattle.doc_tree.specs.declared.tree.Tree.{Tree}
 use Rattle.object_store.specs.declared.key.Key.{Key}
-use Rattle.object_store.specs.Keys.{key, place_of, key_cmp, key_cmp_total, key_cmp_ties, same_key, is_of}
+use Rattle.object_store.specs.Keys.{key, position_of, key_cmp, key_cmp_total, key_cmp_ties, same_key, is_of}
 
 -- two comparisons in turn tie where both do
 both_tie : (a b : Ordering) → is_eq (ordering_then a b) ≡ (is_eq a && is_eq b)
@@ -21,8 +21,8 @@ both_tie Greater b = refl
 -- a key is that of a kind and a name where it is of the kind and has the name
 pub same_key-key : (kind : Kind) (name : List ℕ) (k : Key) → same_key (key kind name) k ≡ (is_of kind k && bytes_eq name k.name)
 same_key-key kind name k =
-    both_tie (nat_cmp (place_of kind) (place_of k.kind)) (slice_cmp nat_cmp name k.name)
-    ∙ (λ i. sym (unsigned_ties (place_of kind) (place_of k.kind)) i && sym (texts_ties name k.name) i)
+    both_tie (nat_cmp (position_of kind) (position_of k.kind)) (slice_cmp nat_cmp name k.name)
+    ∙ (λ i. sym (unsigned_ties (position_of kind) (position_of k.kind)) i && sym (texts_ties name k.name) i)
 
 -- where the first entry has the key, it is what is sought
 pub sought-here : (k : Key) (e : Key × Tree) (rest : List (Key × Tree)) → same_key k e.0 ≡ true → lookup (same_key k) (e ∷ rest) ≡ Some e.1

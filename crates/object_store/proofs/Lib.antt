@@ -9,6 +9,6 @@ pub mod ListsLemmas
 pub mod MovesLemmas
 pub mod NamesLemmas
 pub mod ObjectsLemmas
-pub mod PlacesLemmas
+pub mod ShelvingLemmas
 pub mod ShelvesLemmas
 pub mod ViewLemmas

@@ -7,18 +7,18 @@ use Rattle.std.specs.Cmp.{eq_by_cmp_equiv}
 use Rattle.doc_tree.specs.declared.tree.Tree.{Tree}
 use Rattle.object_store.specs.declared.key.Key.{Key}
 use Rattle.object_store.specs.Keys.{key_cmp_total, same_key}
-use Rattle.object_store.specs.Places.{shelf_of, name_on}
+use Rattle.object_store.specs.Shelving.{shelf_of, name_on}
 use Rattle.object_store.specs.Kept.{Late, Shelves, on_shelf, settled, found}
-use Rattle.object_store.proofs.ViewLemmas.{place-decides}
+use Rattle.object_store.proofs.ViewLemmas.{shelved-decides}
 
--- what changes at the place of a key changes for the key
+-- what changes where a key is kept changes for the key
 pub settled-changed : (shelves then : Shelves) (word name : List ℕ) (k : Key) (tree : Option Tree) → word ≡ shelf_of k → name ≡ name_on k
     → ((other its : List ℕ) → on_shelf then other its ≡ cond (bytes_eq word other && bytes_eq name its) tree (on_shelf shelves other its))
     → (q : Key) → settled then q ≡ cond (same_key k q) tree (settled shelves q)
 settled-changed shelves then word name k tree is_word is_name change q =
     change (shelf_of q) (name_on q)
     ∙ (λ i. cond (bytes_eq (is_word i) (shelf_of q) && bytes_eq (is_name i) (name_on q)) tree (settled shelves q))
-    ∙ ap (λ b. cond b tree (settled shelves q)) (place-decides k q)
+    ∙ ap (λ b. cond b tree (settled shelves q)) (shelved-decides k q)
 
 -- a key is taken from among those that came late, and from its shelf
 pub found-taken : (late now : Late) (shelves then : Shelves) (k : Key)

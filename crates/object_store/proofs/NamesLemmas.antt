@@ -14,7 +14,7 @@ use Rattle.doc_tree.specs.Doc.{Doc}
 use Rattle.doc_tree.specs.Valid.{InOrder}
 use Rattle.doc_tree.specs.declared.kind.Kind.{Kind}
 use Rattle.object_store.specs.declared.key.Key.{Key}
-use Rattle.object_store.specs.Keys.{key, place_of, key_cmp, same_key, is_of, names_of}
+use Rattle.object_store.specs.Keys.{key, position_of, key_cmp, same_key, is_of, names_of}
 use Rattle.object_store.specs.Objects.{Objects, names_in}
 use Rattle.object_store.proofs.KeysLemmas.{same_key-key}
 
@@ -38,8 +38,8 @@ less Greater h = absurd h
 -- of two keys of a kind the lower has the name below
 below_name : (kind : Kind) (k l : Key) → is_of kind k ≡ true → is_of kind l ≡ true → key_cmp k l ≡ Less → name_cmp k.name l.name ≡ Less
 below_name kind k l of_k of_l below =
-    let places : place_of k.kind ≡ place_of l.kind = sym (eqb-true (place_of kind) (place_of k.kind) of_k) ∙ eqb-true (place_of kind) (place_of l.kind) of_l in
-    let tied : nat_cmp (place_of k.kind) (place_of l.kind) ≡ Equal = ap (λ n. nat_cmp n (place_of l.kind)) places ∙ tied_itself nat_cmp_total (place_of l.kind) in
+    let positions : position_of k.kind ≡ position_of l.kind = sym (eqb-true (position_of kind) (position_of k.kind) of_k) ∙ eqb-true (position_of kind) (position_of l.kind) of_l in
+    let tied : nat_cmp (position_of k.kind) (position_of l.kind) ≡ Equal = ap (λ n. nat_cmp n (position_of l.kind)) positions ∙ tied_itself nat_cmp_total (position_of l.kind) in
     ap (λ r. ordering_then r (name_cmp k.name l.name)) (sym tied) ∙ below
 
 -- a key below all has a name below all of its kind

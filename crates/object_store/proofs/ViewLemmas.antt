@@ -14,11 +14,11 @@ use Rattle.doc_tree.specs.Tree.{doc_of}
 use Rattle.doc_tree.specs.declared.tree.Tree.{Tree}
 use Rattle.object_store.specs.declared.key.Key.{Key}
 use Rattle.object_store.specs.Keys.{key_cmp, key_cmp_total, key_cmp_ties, same_key}
-use Rattle.object_store.specs.Places.{shelf_of, name_on, key_at}
+use Rattle.object_store.specs.Shelving.{shelf_of, name_on, key_at}
 use Rattle.object_store.specs.Kept.{Late, Shelf, Shelves, settled, found, keys_on, all_keys, with_doc, objects_in}
 use Rattle.object_store.proofs.FoundLemmas.{any-key, shelf-found}
 use Rattle.object_store.proofs.KeysLemmas.{same_key-is, same_key-self}
-use Rattle.object_store.proofs.PlacesLemmas.{key_at-place}
+use Rattle.object_store.proofs.ShelvingLemmas.{key_at-shelved}
 use Rattle.object_store.proofs.ItemsLemmas.{some-same, same_bools}
 
 or-true : (a : Bool) → (a || true) ≡ true
@@ -42,18 +42,18 @@ parts true q both = (refl, both)
 parts false q both = absurd (true≢false (sym both))
 
 -- a key is where its shelf is and its name there
-pub place-decides : (a b : Key) → (bytes_eq (shelf_of a) (shelf_of b) && bytes_eq (name_on a) (name_on b)) ≡ same_key a b
-place-decides a b =
+pub shelved-decides : (a b : Key) → (bytes_eq (shelf_of a) (shelf_of b) && bytes_eq (name_on a) (name_on b)) ≡ same_key a b
+shelved-decides a b =
     same_bools (bytes_eq (shelf_of a) (shelf_of b) && bytes_eq (name_on a) (name_on b)) (same_key a b)
-    (λ both. subst (λ (k : Key). same_key a k ≡ true) (same_place both) (same_key-self a))
+    (λ both. subst (λ (k : Key). same_key a k ≡ true) (same_position both) (same_key-self a))
     (λ same. subst (λ (k : Key). (bytes_eq (shelf_of a) (shelf_of k) && bytes_eq (name_on a) (name_on k)) ≡ true) (same_key-is a b same)
     (ap (λ c. c && bytes_eq (name_on a) (name_on a)) ((bytes_decides (shelf_of a) (shelf_of a)).1 refl) ∙ (bytes_decides (name_on a) (name_on a)).1 refl))
   where
-    same_place : (bytes_eq (shelf_of a) (shelf_of b) && bytes_eq (name_on a) (name_on b)) ≡ true → a ≡ b
-    same_place both =
+    same_position : (bytes_eq (shelf_of a) (shelf_of b) && bytes_eq (name_on a) (name_on b)) ≡ true → a ≡ b
+    same_position both =
         let shelves = (bytes_decides (shelf_of a) (shelf_of b)).0 (parts (bytes_eq (shelf_of a) (shelf_of b)) (bytes_eq (name_on a) (name_on b)) both).0 in
         let names = (bytes_decides (name_on a) (name_on b)).0 (parts (bytes_eq (shelf_of a) (shelf_of b)) (bytes_eq (name_on a) (name_on b)) both).1 in
-        sym (key_at-place a) ∙ (λ i. key_at (shelves i) (names i)) ∙ key_at-place b
+        sym (key_at-shelved a) ∙ (λ i. key_at (shelves i) (names i)) ∙ key_at-shelved b
 
 -- what is found on a shelf is among the keys of the shelves
 on-shelves : (q : Key) (shelf : Shelf) (es : List (String Global × Shelf)) → lookup (λ k. bytes_eq (shelf_of q) (string_bytes k)) es ≡ Some shelf
@@ -73,7 +73,7 @@ on-shelves q shelf (e ∷ es) there its =
         (subst (λ (s : Shelf). is_some (get_by_text s (name_on q)) ≡ true) (sym is) its)
         (λ name same.
         subst (λ (k : Key). same_key q k ≡ true)
-        (sym (key_at-place q) ∙ (λ i. key_at ((bytes_decides (shelf_of q) (string_bytes e.0)).0 own i) ((bytes_decides (name_on q) (string_bytes name)).0 same i)))
+        (sym (key_at-shelved q) ∙ (λ i. key_at ((bytes_decides (shelf_of q) (string_bytes e.0)).0 own i) ((bytes_decides (name_on q) (string_bytes name)).0 same i)))
         (same_key-self q))
 
 -- what is found is among all keys

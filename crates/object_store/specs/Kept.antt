@@ -16,7 +16,7 @@ use Rattle.doc_tree.specs.declared.tree.Tree.{Tree}
 use Rattle.object_store.specs.declared.key.Key.{Key}
 use Rattle.object_store.specs.Keys.{same_key}
 use Rattle.object_store.specs.Objects.{Objects}
-use Rattle.object_store.specs.Places.{shelf_of, name_on, key_at, holds_items}
+use Rattle.object_store.specs.Shelving.{shelf_of, name_on, key_at, holds_items}
 
 -- objects by their keys
 abbrev pub Late : Type 0

@@ -1,5 +1,5 @@
 pub mod Keys
 pub mod Objects
 pub mod Items
-pub mod Places
+pub mod Shelving
 pub mod Kept

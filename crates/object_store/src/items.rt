@@ -5,12 +5,12 @@ ghost use Rattle.indexmap.specs.IndexMap.{get_by_text, keys};
 ghost use Rattle.object_store.specs.Items.{item_name};
 ghost use Rattle.object_store.specs.Keys.{key};
 ghost use Rattle.object_store.specs.Kept.{has, on_shelf, settled, item_among, item_on};
-ghost use Rattle.object_store.specs.Places.{has_slash, holds_items, is_slash, key_at, word_of};
+ghost use Rattle.object_store.specs.Shelving.{has_slash, holds_items, is_slash, key_at, word_of};
 
 use crate::item::is_item;
 use crate::listing::add_name;
-use crate::place::{place, word_of};
 use crate::shelves::{Shelf, Shelves, add_names, find};
+use crate::shelving::{shelved, word_of};
 use doc_tree::{Kind, NoMemory, Text, Tree};
 use std::alloc::Global;
 use std::collections::BTreeSet;
@@ -19,7 +19,7 @@ use std::collections::BTreeSet;
 pub(crate) fn find_settled<'a>(shelves: &'a Shelves, kind: Kind, name: &str) -> Option<&'a Tree>
     ensures { option_copied result ≡ settled shelves.now (key kind name.now) }
 {
-    let (word, name) = place(kind, name);
+    let (word, name) = shelved(kind, name);
     find(shelves, word, name)
 }
 

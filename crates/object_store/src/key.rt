@@ -3,7 +3,7 @@ ghost use Rattle.std.specs.Prelude.{◌≡◌, ◌++◌, IfOk, Some, refl};
 ghost use Rattle.std.specs.Cmp.{partial_equiv_from_equiv, eq_by_cmp_equiv, partial_order_from_total};
 ghost use Rattle.std.specs.Hash as fed;
 ghost use Rattle.object_store.specs.Items.{item_name};
-ghost use Rattle.object_store.specs.Keys.{key, same_key, key_cmp, key_cmp_total, is_of, place_of, hashed, hashed_alike};
+ghost use Rattle.object_store.specs.Keys.{key, same_key, key_cmp, key_cmp_total, is_of, position_of, hashed, hashed_alike};
 
 use crate::item::is_item;
 use doc_tree::{Kind, NoMemory, Text};
@@ -36,7 +36,7 @@ impl Key {
     pub fn is_of(&self, kind: Kind) -> bool
         ensures { result ≡ is_of kind self.now }
     {
-        place_of(kind) == place_of(self.kind)
+        position_of(kind) == position_of(self.kind)
     }
 
     /// Whether it is of this kind and has this name.
@@ -54,8 +54,8 @@ impl Key {
     }
 }
 
-fn place_of(kind: Kind) -> u8
-    ensures { result ≡ place_of kind }
+fn position_of(kind: Kind) -> u8
+    ensures { result ≡ position_of kind }
 {
     match kind {
         Kind::Org => 0,
@@ -112,8 +112,8 @@ impl Ord for Key {
     ghost matches_eq = { λ x y. refl };
 
     fn cmp(&self, other: &Self) -> Ordering {
-        place_of(self.kind)
-            .cmp(&place_of(other.kind))
+        position_of(self.kind)
+            .cmp(&position_of(other.kind))
             .then(self.name.cmp(&other.name))
     }
 }
@@ -124,7 +124,7 @@ impl Hash for Key {
     ghost respects_eq = { hashed_alike };
 
     fn hash<H: Hasher>(&self, state: &mut H) {
-        place_of(self.kind).hash(state);
+        position_of(self.kind).hash(state);
         self.name.hash(state);
     }
 }

@@ -8,8 +8,8 @@ mod late;
 mod listing;
 mod lists;
 mod objects;
-mod place;
 mod shelves;
+mod shelving;
 #[cfg(test)]
 mod tests;
 

@@ -17,8 +17,8 @@ use crate::key::Key;
 use crate::late::{Late, add_late_ids, add_late_names, copy_late, seek, seek_item};
 use crate::listing::in_order;
 use crate::lists::Lists;
-use crate::place::place;
 use crate::shelves::{Shelves, add_names, copy_shelves, make_room, put_on, take};
+use crate::shelving::shelved;
 use access_lists::Acl;
 use doc_tree::{Kind, NoMemory, Steps, Text, Texts, Tree};
 use indexmap::IndexMap;
@@ -244,7 +244,7 @@ fn take_from(late: &mut Late, shelves: &mut Shelves, key: &Key) -> Option<Tree>
     ensures spare { spare late.old ≤ spare late.new }
 {
     let waiting = take_late(late, key);
-    let (word, name) = place(key.kind, key.name.as_str());
+    let (word, name) = shelved(key.kind, key.name.as_str());
     let settled = take(shelves, word, name);
     waiting.or(settled)
 }
@@ -281,7 +281,7 @@ fn settle_last(late: &mut Late, shelves: &mut Shelves) -> Result<(), NoMemory>
     let Some((key, _)) = late.last() else {
         return Ok(());
     };
-    let (word, name) = place(key.kind, key.name.as_str());
+    let (word, name) = shelved(key.kind, key.name.as_str());
     let name = String::from_str(alloc, name)?;
     make_room(shelves, alloc, hasher, word)?;
     move_last(late, shelves, name);
@@ -295,7 +295,7 @@ fn move_last(late: &mut Late, shelves: &mut Shelves, name: String)
     ensures spare { spare late.old ≤ spare late.new }
 {
     if let Some((key, tree)) = late.pop() {
-        let (word, _) = place(key.kind, key.name.as_str());
+        let (word, _) = shelved(key.kind, key.name.as_str());
         put_on(shelves, word, name, tree);
     }
 }

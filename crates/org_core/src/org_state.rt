@@ -157,7 +157,7 @@ impl OrgState {
 }
 
 // Makes moves in order. Between two of them the conditions needn't hold.
-fn make_all(there: &mut bool, objects: &mut Objects, moves: Moves)
+pub(crate) fn make_all(there: &mut bool, objects: &mut Objects, moves: Moves)
     requires room { puts_in moves ≤ objects.old.spare }
     requires nobody { IsNobody there.old objects.old }
     ensures state { state_from there.new objects.new ≡ after_moves moves (state_from there.old objects.old) }

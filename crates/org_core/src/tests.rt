@@ -1,17 +1,18 @@
 //! What no clause says: the printed replies, and that the calls succeed with ample memory.
 
-ghost use Rattle.std.specs.Prelude.{◌≡◌, None};
-ghost use Rattle.org_core.specs.States.{state_in};
+ghost use Rattle.std.specs.Prelude.{◌≡◌, None, false};
+ghost use Rattle.org_core.specs.States.{state_in, IsNobody};
 
 use crate::bodies::document_in;
 use crate::moves::{Move, Moves, puts_in};
 use crate::needs::Permission;
-use crate::org_state::OrgState;
+use crate::org_state::{OrgState, make_all};
 use crate::refusals::{Refusal, out_of_memory};
 use crate::replies::Reply;
 use crate::requests::{BadBody, Body};
-use doc_tree::{Kind, NoMemory, Text};
-use object_store::Key;
+use crate::stored::Stored;
+use doc_tree::{Kind, NoMemory, Text, Tree};
+use object_store::{Key, Objects};
 use std::alloc::Global;
 use std::hash::RandomState;
 use std::test::Fail;
@@ -29,9 +30,9 @@ fn add_refusal(alloc: Global, text: &mut String, refusal: Refusal) -> Result<(),
     add(alloc, text, reply)
 }
 
-/// The refusal of each place in the order of refusals.
-fn refusal(alloc: Global, place: u8) -> Result<Refusal, NoMemory> {
-    Ok(match place {
+/// The refusal of each position in the order of refusals.
+fn refusal(alloc: Global, position: u8) -> Result<Refusal, NoMemory> {
+    Ok(match position {
         0 => Refusal::TooLarge,
         1 => Refusal::VersionNotTaken,
         2 => Refusal::NotImplemented,
@@ -45,8 +46,8 @@ fn refusal(alloc: Global, place: u8) -> Result<Refusal, NoMemory> {
 }
 
 fn add_refusals(alloc: Global, text: &mut String) -> Result<(), NoMemory> {
-    for place in 0..9 {
-        add_refusal(alloc, text, refusal(alloc, place)?)?;
+    for position in 0..9 {
+        add_refusal(alloc, text, refusal(alloc, position)?)?;
     }
     Ok(())
 }
@@ -114,5 +115,71 @@ fn a_state_is_told_changed_and_copied(rt: HostRuntime) -> Result<(), Fail> {
     add_state(alloc, &mut text, &state.copy(alloc)?)?;
     assert_eq!(rt; text.as_str(), "false false 0\nfalse false 0\n");
     assert!(rt; document_in(&Body::Bad(BadBody::TooDeep)).is_err());
+    Ok(())
+}
+
+/// What is told between two moves, when the conditions of a state needn't hold: the same of its parts.
+fn add_parts(
+    alloc: Global,
+    text: &mut String,
+    there: bool,
+    objects: &Objects,
+) -> Result<(), NoMemory> {
+    let has = objects.has(Kind::Node, "web1");
+    let count = objects.names(alloc, Kind::Node)?.len();
+    let line = format!(in alloc; "{there} {has} {count}\n")?;
+    text.push_str(line.as_str())?;
+    Ok(())
+}
+
+fn make_one(
+    alloc: Global,
+    there: &mut bool,
+    objects: &mut Objects,
+    one: Move,
+) -> Result<(), NoMemory>
+    requires { IsNobody there.old objects.old }
+    ensures { IsNobody there.new objects.new }
+{
+    let mut moves = Moves::new(alloc);
+    moves.push(one)?;
+    objects.reserve(puts_in(&moves))?;
+    make_all(there, objects, moves);
+    Ok(())
+}
+
+fn live(alloc: Global, objects: &mut Objects, text: &mut String) -> Result<(), NoMemory>
+    requires { IsNobody false objects.old }
+{
+    let mut there = false;
+    let node = web1(alloc)?;
+    make_one(
+        alloc,
+        &mut there,
+        objects,
+        Move::Put(node, Stored::of(Tree::Null)),
+    )?;
+    add_parts(alloc, text, there, objects)?;
+    make_one(alloc, &mut there, objects, Move::Open)?;
+    let node = web1(alloc)?;
+    make_one(
+        alloc,
+        &mut there,
+        objects,
+        Move::Put(node, Stored::of(Tree::Null)),
+    )?;
+    add_parts(alloc, text, there, objects)?;
+    let node = web1(alloc)?;
+    make_one(alloc, &mut there, objects, Move::TakeOut(node))?;
+    add_parts(alloc, text, there, objects)
+}
+
+#[test]
+fn an_organisation_opens_keeps_and_forgets(rt: HostRuntime) -> Result<(), Fail> {
+    let alloc = rt.alloc();
+    let mut objects = Objects::none(alloc, RandomState::new(&rt)?);
+    let mut text = String::new(alloc);
+    live(alloc, &mut objects, &mut text)?;
+    assert_eq!(rt; text.as_str(), "false false 0\ntrue true 1\ntrue false 0\n");
     Ok(())
 }

@@ -44,7 +44,7 @@ abbrev pub state_alone : State → List Asked → State
 state_alone state [] = state
 state_alone state (asked ∷ rest) = state_alone (after asked.mark asked.request state) rest
 
--- each mark is one that the request may have in the state at its place
+-- each mark is one that the request may have in the state at its position
 abbrev pub MarksAreLawful : State → List Asked → Type 0
 MarksAreLawful state [] = Unit {0}
 MarksAreLawful state (asked ∷ rest) = IsLawful asked.mark asked.request state × MarksAreLawful (after asked.mark asked.request state) rest
@@ -114,7 +114,7 @@ OutsideAnswer states None request reply = IsAnsweredBy (mark_of reply) states re
 abbrev pub states_after : States → List Exchange → States
 states_after opened exchanges name = state_alone (opened name) (map asked_in (own name exchanges))
 
--- each request of no organisation is answered in the states at its place in the stream
+-- each request of no organisation is answered in the states at its position in the stream
 abbrev pub OutsideAnswered : States → List Exchange → List Exchange → Type 0
 OutsideAnswered opened done [] = Unit {0}
 OutsideAnswered opened done (e ∷ rest) =

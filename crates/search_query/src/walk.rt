@@ -33,7 +33,7 @@ fn fits_behind(signs: &[Sign], value: &[u8]) -> bool
 {
     let mut left = signs;
     let mut here = value;
-    'places: loop {
+    'positions: loop {
         match walk(left, here) {
             Stop::Fit => return true,
             Stop::AtAny(behind, rest) => {

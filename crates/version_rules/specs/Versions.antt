@@ -33,9 +33,9 @@ reads_number part = if is_too_large part then Err PartTooLarge else Ok (digits_v
 abbrev pub is_version : List (List ℕ) → Bool
 is_version parts = (length parts == 2 || length parts == 3) && list_all is_number parts
 
--- the number of the part at a place, or 0 where no part stands there
+-- the number of the part at a position, or 0 where no part stands there
 abbrev pub number_at : List (List ℕ) → ℕ → ℕ
-number_at parts place = digits_value 10 (slice_index_or parts place [])
+number_at parts position = digits_value 10 (slice_index_or parts position [])
 
 -- the version of these parts, or why they are none
 abbrev pub version_of : List (List ℕ) → Result Version VersionFault

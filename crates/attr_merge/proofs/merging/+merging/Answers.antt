@@ -7,7 +7,7 @@ use Rattle.doc_tree.specs.Part.{at, pair_at}
 use Rattle.doc_tree.specs.Tree.{doc_of}
 use Rattle.doc_tree.specs.declared.tree.Tree.{Tree}
 use Rattle.attr_merge.specs.Children.{AreValues, children}
-use Rattle.attr_merge.specs.Families.{counting_below, joined, places}
+use Rattle.attr_merge.specs.Families.{counting_below, joined, positions}
 use Rattle.attr_merge.specs.Merged.{origin_at, path_cmp}
 use Rattle.attr_merge.specs.Nodes.{leaves_of, below_key}
 use Rattle.attr_merge.specs.Parts.{gathered_in, piece_of, pieces_of}
@@ -97,7 +97,7 @@ merge_parts-returns-in-List t c =
     (λ node h. array-effective (pieces_of parts) (piece_of top) rest (docs_of c.in-List.field-0) (doc_of node.tree) (leaves_of node.leaves.items)
     split c.requires.values (ap doc_of c.in-List.is)
     (h.0 ∙ ap (λ (ps : List Piece). joined (piece_of top) (counting_below (piece_of top) ps)) same)
-    (h.1 ∙ ap (λ (ps : List Piece). ([], places (piece_of top ∷ counting_below (piece_of top) ps)) ∷ []) same))
+    (h.1 ∙ ap (λ (ps : List Piece). ([], positions (piece_of top ∷ counting_below (piece_of top) ps)) ∷ []) same))
 
 pub merge_parts-returns-in_default : goal.merge_parts-returns-in_default
 merge_parts-returns-in_default t c =

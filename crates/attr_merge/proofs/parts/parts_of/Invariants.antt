@@ -4,5 +4,5 @@ use Rattle.attr_merge.specs.Parts.{pieces_of}
 use Rattle.attr_merge.proofs.parts.parts_of.Given as goal
 
 -- the layers that are left come above the parts so far
-abbrev pub invariant-loop-place : goal.invariant-loop-place
-invariant-loop-place l = stacked l.place (drop l.place l.layers) (pieces_of (reverse l.parts.items)) ≡ highest_first l.layers
+abbrev pub invariant-loop-position : goal.invariant-loop-position
+invariant-loop-position l = stacked l.position (drop l.position l.layers) (pieces_of (reverse l.parts.items)) ≡ highest_first l.layers

@@ -4,7 +4,7 @@ use Rattle.doc_tree.specs.declared.kind.Kind.TheVariants as kind
 use Rattle.doc_tree.specs.declared.tree.Tree.{Tree}
 use Rattle.object_store.specs.Keys.{key}
 use Rattle.object_store.specs.Kept.{has, settled}
-use Rattle.object_store.specs.Places.{key_at}
+use Rattle.object_store.specs.Shelving.{key_at}
 use Rattle.object_store.proofs.FoundLemmas.{added-where, added-not}
 use Rattle.object_store.proofs.items.add_item.Goals as goal
 

@@ -3,9 +3,9 @@ use Rattle.doc_tree.specs.declared.kind.Kind.TheVariants as kind
 use Rattle.object_store.specs.Items.{item_name}
 use Rattle.object_store.specs.Keys.{key}
 use Rattle.object_store.specs.Kept.{on_shelf, settled}
-use Rattle.object_store.specs.Places.{is_slash}
+use Rattle.object_store.specs.Shelving.{is_slash}
 use Rattle.std.specs.List.{before_first, after_first}
-use Rattle.object_store.proofs.PlacesLemmas.{item-shelf, item-name, joined-parts, front-bare}
+use Rattle.object_store.proofs.ShelvingLemmas.{item-shelf, item-name, joined-parts, front-bare}
 use Rattle.object_store.proofs.items.find_item.Goals as goal
 
 -- a bag without a slash is the shelf of its items

@@ -3,7 +3,7 @@ use Rattle.std.specs.Map.{lookup}
 use Rattle.std.specs.Option.{option_or}
 use Rattle.object_store.specs.Keys.{same_key}
 use Rattle.object_store.specs.Objects.{Store}
-use Rattle.object_store.specs.Places.{shelf_of, name_on}
+use Rattle.object_store.specs.Shelving.{shelf_of, name_on}
 use Rattle.object_store.proofs.ViewLemmas.{objects_in-same}
 use Rattle.object_store.proofs.objects.Objects.copy.Goals as goal
 

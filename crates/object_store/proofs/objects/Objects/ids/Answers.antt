@@ -10,7 +10,7 @@ use Rattle.object_store.specs.Keys.{key, same_key}
 use Rattle.object_store.specs.Objects.{Store, smaller}
 use Rattle.object_store.specs.Kept.{has, on_shelf, settled, objects_in}
 use Rattle.object_store.proofs.ListedLemmas.{gathered, ids-listed, told}
-use Rattle.object_store.proofs.PlacesLemmas.{item-shelf, item-name}
+use Rattle.object_store.proofs.ShelvingLemmas.{item-shelf, item-name}
 use Rattle.object_store.proofs.objects.Objects.ids.Goals as goal
 
 -- the ids that were gathered, in order

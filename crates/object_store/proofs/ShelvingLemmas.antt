@@ -11,7 +11,7 @@ use Rattle.doc_tree.specs.declared.kind.Kind.TheVariants.{Org, Node, Role, Envir
 use Rattle.object_store.specs.declared.key.Key.{Key}
 use Rattle.object_store.specs.Keys.{key, is_of, all_kinds}
 use Rattle.object_store.specs.Items.{item_front, item_name}
-use Rattle.object_store.specs.Places.{is_slash, has_slash, word_of, is_in_bag, shelf_of, name_on, kind_among, is_word, key_at, holds_items}
+use Rattle.object_store.specs.Shelving.{is_slash, has_slash, word_of, is_in_bag, shelf_of, name_on, kind_among, is_word, key_at, holds_items}
 use Rattle.object_store.proofs.ItemsLemmas.{starts-whole}
 
 -- the kind of a word, and that it is a kind's
@@ -121,7 +121,7 @@ slash-inside bag id none =
     shorter : (xs : List ℕ) → nat_lt (length xs) (length (xs ++ 47 ∷ id)) ≡ true
     shorter xs = grind (arith, length-append)
 
--- the place of an item
+-- where an item is kept
 pub item-shelf : (bag id : List ℕ) → has_slash bag ≡ false → shelf_of (key Item (item_name bag id)) ≡ bag
 item-shelf bag id none =
     ap (λ b. if b then before_first is_slash (item_name bag id) else word_of Item) (slash-inside bag id none) ∙ bag-before bag id none
@@ -169,7 +169,7 @@ name-whole name there =
     slash : (n : ℕ) → not (is_slash n) ≡ false → n ≡ 47
     slash n is = grind (arith, is)
 
--- the place of an item whose bag has a slash
+-- where an item is kept whose bag has a slash
 pub joined-parts : (bag id : List ℕ) → has_slash bag ≡ true → item_name bag id ≡ item_name (before_first is_slash bag) (item_name (after_first is_slash bag) id)
 joined-parts bag id there =
     let front = before_first is_slash bag in
@@ -187,8 +187,8 @@ bare-word text none = neither (is_word text) refl
     neither false is = is
 
 -- the shelf and the name there tell the key
-pub key_at-place : (k : Key) → key_at (shelf_of k) (name_on k) ≡ k
-key_at-place k = by_place (is_in_bag k) refl
+pub key_at-shelved : (k : Key) → key_at (shelf_of k) (name_on k) ≡ k
+key_at-shelved k = by_shelf (is_in_bag k) refl
   where
     of_kind : key_at (word_of k.kind) k.name ≡ k
     of_kind =
@@ -201,9 +201,9 @@ key_at-place k = by_place (is_in_bag k) refl
         ap (λ b. if b then key (kind_among all_kinds front) (after_first is_slash k.name) else key Item (item_name front (after_first is_slash k.name))) (bare-word front (front-bare k.name))
         ∙ (λ i. key (sym (of-item k.kind k.name of) i) (sym (name-whole k.name there) i))
 
-    by_place : (b : Bool) → is_in_bag k ≡ b → key_at (if b then before_first is_slash k.name else word_of k.kind) (if b then after_first is_slash k.name else k.name) ≡ k
-    by_place true is = in_bag (and_parts (is_of Item k) (has_slash k.name) is).0 (and_parts (is_of Item k) (has_slash k.name) is).1
-    by_place false is = of_kind
+    by_shelf : (b : Bool) → is_in_bag k ≡ b → key_at (if b then before_first is_slash k.name else word_of k.kind) (if b then after_first is_slash k.name else k.name) ≡ k
+    by_shelf true is = in_bag (and_parts (is_of Item k) (has_slash k.name) is).0 (and_parts (is_of Item k) (has_slash k.name) is).1
+    by_shelf false is = of_kind
 
 -- on the shelf of an item there may be items
 pub item-held : (name : List ℕ) → holds_items (shelf_of (key Item name)) ≡ true

@@ -2,24 +2,24 @@
 ghost use Rattle.std.specs.Prelude.{◌≡◌, ◌↔◌, IfOk, IsTrue};
 ghost use Rattle.object_store.specs.Items.{item_name};
 ghost use Rattle.object_store.specs.Keys.{key};
-ghost use Rattle.object_store.specs.Places.{has_slash, holds_items, is_word, name_on, shelf_of, word_of};
+ghost use Rattle.object_store.specs.Shelving.{has_slash, holds_items, is_word, name_on, shelf_of, word_of};
 
 use doc_tree::{Kind, NoMemory, Text};
 use std::alloc::Global;
 
 /// The word of the shelf on which the object of this kind and name is kept, and its name there.
-pub(crate) fn place(kind: Kind, name: &str) -> (&str, &str)
+pub(crate) fn shelved(kind: Kind, name: &str) -> (&str, &str)
     ensures shelf { result.0.now ≡ shelf_of (key kind name.now) }
     ensures name { result.1.now ≡ name_on (key kind name.now) }
 {
     match kind {
-        Kind::Item => place_of_item(name),
+        Kind::Item => shelved_item(name),
         _ => (word_of(kind), name),
     }
 }
 
 // An item stands on its bag's shelf by its id. What is no item's name stands on the kind's shelf.
-fn place_of_item(name: &str) -> (&str, &str)
+fn shelved_item(name: &str) -> (&str, &str)
     ensures shelf { result.0.now ≡ shelf_of (key Kind.Item name.now) }
     ensures name { result.1.now ≡ name_on (key Kind.Item name.now) }
 {
