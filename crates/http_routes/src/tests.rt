@@ -10,396 +10,82 @@ use std::alloc::Global;
 use std::test::Fail;
 
 // A method, a target and a body, and the request of the operator that they spell.
-const REQUESTS: [(&str, &str, &str, &str); 66] = [
-    (
-        "POST",
-        "/organizations?x=1",
-        "{\"name\":\"acme\"}",
-        "acme create built doc",
-    ),
-    (
-        "POST",
-        "/organizations",
-        "{\"a\":1,\"name\":\"a-1_b\"}",
-        "a-1_b create built doc",
-    ),
-    (
-        "POST",
-        "/organizations",
-        "{\"name\":\"Acme\"}",
-        "organisations built doc",
-    ),
-    (
-        "POST",
-        "/organizations",
-        "{\"name\":7}",
-        "organisations built doc",
-    ),
-    (
-        "POST",
-        "/organizations",
-        "[\"name\"]",
-        "organisations built doc",
-    ),
-    (
-        "POST",
-        "/organizations",
-        "{\"name\":\"acme\"",
-        "organisations built bad",
-    ),
-    ("POST", "/organizations", "", "organisations built bad"),
-    (
-        "GET",
-        "/organizations",
-        "{\"name\":\"acme\"}",
-        "organisations built empty",
-    ),
-    (
-        "PUT",
-        "/organizations",
-        "{\"name\":\"acme\"}",
-        "organisations lacking empty",
-    ),
-    (
-        "post",
-        "/organizations",
-        "{\"name\":\"acme\"}",
-        "organisations lacking empty",
-    ),
-    ("GET", "/organizations/acme", "", "acme whole built empty"),
-    (
-        "DELETE",
-        "/organizations/acme",
-        "",
-        "acme whole lacking empty",
-    ),
-    (
-        "POST",
-        "/organizations/acme/nodes",
-        "{}",
-        "acme nodes built doc",
-    ),
-    (
-        "GET",
-        "/organizations/acme/%6eodes",
-        "{}",
-        "acme nodes built empty",
-    ),
-    (
-        "GET",
-        "/organizations/acme/roles",
-        "",
-        "acme roles built empty",
-    ),
-    (
-        "GET",
-        "/organizations/acme/environments",
-        "",
-        "acme environments built empty",
-    ),
-    (
-        "POST",
-        "/organizations/acme/clients",
-        "{",
-        "acme clients built bad",
-    ),
-    (
-        "PUT",
-        "/organizations/acme/nodes/web1",
-        "{}",
-        "acme nodes web1 built doc",
-    ),
-    (
-        "POST",
-        "/organizations/acme/nodes/web1",
-        "{}",
-        "acme nodes web1 lacking empty",
-    ),
-    (
-        "GET",
-        "/organizations/acme/nodes/a%20b",
-        "",
-        "acme nodes a b built empty",
-    ),
-    (
-        "GET",
-        "/organizations/acme/roles/r",
-        "",
-        "acme roles r built empty",
-    ),
-    (
-        "GET",
-        "/organizations/acme/environments/e",
-        "",
-        "acme environments e built empty",
-    ),
-    (
-        "DELETE",
-        "/organizations/acme/clients/c",
-        "{}",
-        "acme clients c built empty",
-    ),
-    (
-        "POST",
-        "/organizations/acme/groups",
-        "{}",
-        "acme groups later empty",
-    ),
-    (
-        "GET",
-        "/organizations/acme/groups/g",
-        "",
-        "acme group g later empty",
-    ),
-    (
-        "GET",
-        "/organizations/acme/users",
-        "",
-        "acme users later empty",
-    ),
-    (
-        "GET",
-        "/organizations/acme/users/u",
-        "",
-        "acme user u later empty",
-    ),
-    (
-        "GET",
-        "/organizations/acme/containers",
-        "",
-        "acme containers later empty",
-    ),
-    (
-        "PUT",
-        "/organizations/acme/containers/c",
-        "{}",
-        "acme container c lacking empty",
-    ),
-    (
-        "GET",
-        "/organizations/acme/data/b/_acl",
-        "",
-        "acme list data b later empty",
-    ),
-    (
-        "GET",
-        "/organizations/acme/policy_groups/g/_acl",
-        "",
-        "acme list policy_groups g later empty",
-    ),
-    (
-        "PUT",
-        "/organizations/acme/nodes/web/_acl/read",
-        "{}",
-        "acme entry nodes web read later empty",
-    ),
-    (
-        "GET",
-        "/organizations/acme/data",
-        "",
-        "acme bags built empty",
-    ),
-    (
-        "GET",
-        "/organizations/acme/data/b",
-        "",
-        "acme bag b built empty",
-    ),
-    (
-        "PUT",
-        "/organizations/acme/data/b/i",
-        "{}",
-        "acme item b i built doc",
-    ),
-    (
-        "POST",
-        "/organizations/acme/sandboxes",
-        "{}",
-        "acme sandboxes later empty",
-    ),
-    (
-        "PUT",
-        "/organizations/acme/sandboxes/1",
-        "{}",
-        "acme sandbox 1 later empty",
-    ),
-    (
-        "PUT",
-        "/organizations/acme/files/0f",
-        "x",
-        "acme file 0f later empty",
-    ),
-    (
-        "GET",
-        "/organizations/acme/cookbooks",
-        "",
-        "acme cookbooks later empty",
-    ),
-    (
-        "GET",
-        "/organizations/acme/cookbooks/c",
-        "",
-        "acme cookbook c later empty",
-    ),
-    (
-        "GET",
-        "/organizations/acme/cookbooks/c/1.0.0",
-        "",
-        "acme version c 1.0.0 later empty",
-    ),
-    (
-        "GET",
-        "/organizations/acme/universe",
-        "",
-        "acme universe later empty",
-    ),
-    (
-        "GET",
-        "/organizations/acme/cookbook_artifacts",
-        "",
-        "acme artifacts later empty",
-    ),
-    (
-        "GET",
-        "/organizations/acme/cookbook_artifacts/c/1f",
-        "",
-        "acme artifact c 1f later empty",
-    ),
-    (
-        "POST",
-        "/organizations/acme/environments/e/cookbook_versions",
-        "{}",
-        "acme solved e later empty",
-    ),
-    (
-        "GET",
-        "/organizations/acme/policies",
-        "",
-        "acme policies later empty",
-    ),
-    (
-        "GET",
-        "/organizations/acme/policies/p",
-        "",
-        "acme policy p later empty",
-    ),
-    (
-        "POST",
-        "/organizations/acme/policies/p/revisions",
-        "{}",
-        "acme revisions p later empty",
-    ),
-    (
-        "GET",
-        "/organizations/acme/policies/p/revisions/1",
-        "",
-        "acme revision p 1 later empty",
-    ),
-    (
-        "GET",
-        "/organizations/acme/policy_groups",
-        "",
-        "acme policygroups later empty",
-    ),
-    (
-        "GET",
-        "/organizations/acme/policy_groups/g",
-        "",
-        "acme policygroup g later empty",
-    ),
-    (
-        "PUT",
-        "/organizations/acme/policy_groups/g/policies/p",
-        "{}",
-        "acme assignment g p later empty",
-    ),
-    (
-        "GET",
-        "/organizations/acme/search",
-        "",
-        "acme indexes later empty",
-    ),
-    (
-        "POST",
-        "/organizations/acme/search/node",
-        "{}",
-        "acme index node later empty",
-    ),
-    (
-        "POST",
-        "/organizations/acme/nodes/a/b",
-        "{}",
-        "no route lacking empty",
-    ),
-    (
-        "GET",
-        "/organizations/acme/nodes/a%2Fb",
-        "",
-        "no route lacking empty",
-    ),
-    (
-        "GET",
-        "/organizations/acme/nodes/",
-        "",
-        "no route lacking empty",
-    ),
-    ("PUT", "/license", "{}", "no route lacking empty"),
-    ("GET", "organizations", "", "no route lacking empty"),
-    ("GET", "/users", "", "left out lacking empty"),
-    ("POST", "/users", "{}", "left out lacking empty"),
-    ("GET", "/users/ann/keys", "", "left out lacking empty"),
-    (
-        "GET",
-        "/organizations/acme/principals/ann",
-        "",
-        "left out lacking empty",
-    ),
-    (
-        "PUT",
-        "/organizations/acme/required_recipe",
-        "{}",
-        "left out lacking empty",
-    ),
-    (
-        "GET",
-        "/organizations/acme/data/b/i/x",
-        "",
-        "no route lacking empty",
-    ),
-    (
-        "POST",
-        "/organizations/acme/data/b",
-        "[1]",
-        "acme bag b built doc",
-    ),
-];
+const REQUESTS: &str = r#"POST /organizations?x=1 {"name":"acme"} => acme create built doc
+POST /organizations {"a":1,"name":"a-1_b"} => a-1_b create built doc
+POST /organizations {"name":"Acme"} => organisations built doc
+POST /organizations {"name":7} => organisations built doc
+POST /organizations ["name"] => organisations built doc
+POST /organizations {"name":"acme" => organisations built bad
+POST /organizations => organisations built bad
+GET /organizations {"name":"acme"} => organisations built empty
+PUT /organizations {"name":"acme"} => organisations lacking empty
+post /organizations {"name":"acme"} => organisations lacking empty
+GET /organizations/acme => acme whole built empty
+DELETE /organizations/acme => acme whole lacking empty
+POST /organizations/acme/nodes {} => acme nodes built doc
+GET /organizations/acme/%6eodes {} => acme nodes built empty
+GET /organizations/acme/roles => acme roles built empty
+GET /organizations/acme/environments => acme environments built empty
+POST /organizations/acme/clients { => acme clients built bad
+PUT /organizations/acme/nodes/web1 {} => acme nodes web1 built doc
+POST /organizations/acme/nodes/web1 {} => acme nodes web1 lacking empty
+GET /organizations/acme/nodes/a%20b => acme nodes a b built empty
+GET /organizations/acme/roles/r => acme roles r built empty
+GET /organizations/acme/environments/e => acme environments e built empty
+DELETE /organizations/acme/clients/c {} => acme clients c built empty
+POST /organizations/acme/groups {} => acme groups later empty
+GET /organizations/acme/groups/g => acme group g later empty
+GET /organizations/acme/users => acme users later empty
+GET /organizations/acme/users/u => acme user u later empty
+GET /organizations/acme/containers => acme containers later empty
+PUT /organizations/acme/containers/c {} => acme container c lacking empty
+GET /organizations/acme/data/b/_acl => acme list data b later empty
+GET /organizations/acme/policy_groups/g/_acl => acme list policy_groups g later empty
+PUT /organizations/acme/nodes/web/_acl/read {} => acme entry nodes web read later empty
+GET /organizations/acme/data => acme bags built empty
+GET /organizations/acme/data/b => acme bag b built empty
+PUT /organizations/acme/data/b/i {} => acme item b i built doc
+POST /organizations/acme/sandboxes {} => acme sandboxes later empty
+PUT /organizations/acme/sandboxes/1 {} => acme sandbox 1 later empty
+PUT /organizations/acme/files/0f x => acme file 0f later empty
+GET /organizations/acme/cookbooks => acme cookbooks later empty
+GET /organizations/acme/cookbooks/c => acme cookbook c later empty
+GET /organizations/acme/cookbooks/c/1.0.0 => acme version c 1.0.0 later empty
+GET /organizations/acme/universe => acme universe later empty
+GET /organizations/acme/cookbook_artifacts => acme artifacts later empty
+GET /organizations/acme/cookbook_artifacts/c/1f => acme artifact c 1f later empty
+POST /organizations/acme/environments/e/cookbook_versions {} => acme solved e later empty
+GET /organizations/acme/policies => acme policies later empty
+GET /organizations/acme/policies/p => acme policy p later empty
+POST /organizations/acme/policies/p/revisions {} => acme revisions p later empty
+GET /organizations/acme/policies/p/revisions/1 => acme revision p 1 later empty
+GET /organizations/acme/policy_groups => acme policygroups later empty
+GET /organizations/acme/policy_groups/g => acme policygroup g later empty
+PUT /organizations/acme/policy_groups/g/policies/p {} => acme assignment g p later empty
+GET /organizations/acme/search => acme indexes later empty
+POST /organizations/acme/search/node {} => acme index node later empty
+POST /organizations/acme/nodes/a/b {} => no route lacking empty
+GET /organizations/acme/nodes/a%2Fb => no route lacking empty
+GET /organizations/acme/nodes/ => no route lacking empty
+PUT /license {} => no route lacking empty
+GET organizations => no route lacking empty
+GET /users => left out lacking empty
+POST /users {} => left out lacking empty
+GET /users/ann/keys => left out lacking empty
+GET /organizations/acme/principals/ann => left out lacking empty
+PUT /organizations/acme/required_recipe {} => left out lacking empty
+GET /organizations/acme/data/b/i/x => no route lacking empty
+POST /organizations/acme/data/b [1] => acme bag b built doc"#;
 
 // A caller, a version and a target, and the POST of `{"name":"acme"}` that they spell.
-const POSTS: [(&str, &str, &str, &str); 8] = [
-    (
-        "pivotal",
-        "1",
-        "/organizations/o/nodes",
-        "o nodes built doc",
-    ),
-    (
-        "pivotal",
-        "2",
-        "/organizations/o/nodes",
-        "o nodes built empty",
-    ),
-    (
-        "pivotal",
-        "x",
-        "/organizations/o/nodes",
-        "o nodes built empty",
-    ),
-    ("ann", "1", "/organizations/o/nodes", "o nodes built empty"),
-    ("", "1", "/organizations/o/nodes", "o nodes built empty"),
-    ("pivotal", "2", "/organizations", "acme create built doc"),
-    ("ann", "1", "/organizations", "acme create built doc"),
-    ("ann", "x", "/organizations", "acme create built doc"),
-];
+const POSTS: &str = r#"pivotal 1 /organizations/o/nodes => o nodes built doc
+pivotal 2 /organizations/o/nodes => o nodes built empty
+pivotal x /organizations/o/nodes => o nodes built empty
+ann 1 /organizations/o/nodes => o nodes built empty
+ 1 /organizations/o/nodes => o nodes built empty
+pivotal 2 /organizations => acme create built doc
+ann 1 /organizations => acme create built doc
+ann x /organizations => acme create built doc"#;
 
 type Words<'a> = (&'a str, &'a str, &'a str, &'a str);
 
@@ -542,53 +228,41 @@ fn spelled(
     described(alloc, head.with_body(alloc, body)?)
 }
 
-// The requests that are spelled otherwise than they should be.
-fn unexpected_requests(
-    alloc: Global,
-    routes: &Routes,
-    cases: &[(&str, &str, &str, &str)],
-) -> Result<String, NoMemory> {
-    let mut told = String::new(alloc);
-    for (method, target, body, expected) in cases {
-        let line = (*method, *target);
-        let words = spelled(alloc, routes, line, "pivotal", HeaderValue::Missing, body)?;
-        if words.as_str() != *expected {
-            told.push_str(words.as_str())?;
-        }
-    }
-    Ok(told)
+// The request that a row of the first table sends, in words.
+fn requested(alloc: Global, routes: &Routes, sent: &str) -> Result<String, Fail> {
+    let (method, rest) = sent.split_once(' ').ok_or("a method")?;
+    let (target, body) = rest.split_once(' ').unwrap_or((rest, ""));
+    let line = (method, target);
+    Ok(spelled(alloc, routes, line, "pivotal", HeaderValue::Missing, body)?)
 }
 
-// The POSTs that are spelled otherwise than they should be.
-fn unexpected_posts(
-    alloc: Global,
-    routes: &Routes,
-    cases: &[(&str, &str, &str, &str)],
-) -> Result<String, NoMemory> {
-    let mut told = String::new(alloc);
-    for (caller, version, target, expected) in cases {
-        let version = HeaderValue::One(version.as_bytes());
-        let body = "{\"name\":\"acme\"}";
-        let words = spelled(alloc, routes, ("POST", *target), caller, version, body)?;
-        if words.as_str() != *expected {
-            told.push_str(words.as_str())?;
-        }
-    }
-    Ok(told)
+// The request that a row of the second table sends, in words.
+fn posted(alloc: Global, routes: &Routes, sent: &str) -> Result<String, Fail> {
+    let (caller, rest) = sent.split_once(' ').ok_or("a caller")?;
+    let (version, target) = rest.split_once(' ').ok_or("a version")?;
+    let version = HeaderValue::One(version.as_bytes());
+    let body = "{\"name\":\"acme\"}";
+    Ok(spelled(alloc, routes, ("POST", target), caller, version, body)?)
 }
 
 #[test]
 fn a_request_names_its_place(rt: HostRuntime) -> Result<(), Fail> {
     let routes = Routes::take(rt.alloc())?;
-    let wrong = unexpected_requests(rt.alloc(), &routes, &REQUESTS)?;
-    assert_eq!(rt; wrong.as_str(), "");
+    for row in REQUESTS.lines() {
+        let (sent, expected) = row.split_once(" => ").ok_or("a row")?;
+        let told = requested(rt.alloc(), &routes, sent)?;
+        assert_eq!(rt; told.as_str(), expected, "{sent}");
+    }
     Ok(())
 }
 
 #[test]
 fn a_refused_body_is_not_read(rt: HostRuntime) -> Result<(), Fail> {
     let routes = Routes::take(rt.alloc())?;
-    let wrong = unexpected_posts(rt.alloc(), &routes, &POSTS)?;
-    assert_eq!(rt; wrong.as_str(), "");
+    for row in POSTS.lines() {
+        let (sent, expected) = row.split_once(" => ").ok_or("a row")?;
+        let told = posted(rt.alloc(), &routes, sent)?;
+        assert_eq!(rt; told.as_str(), expected, "{sent}");
+    }
     Ok(())
 }

@@ -95,116 +95,6 @@ fn requests_come_in_pieces_of_any_size(rt: HostRuntime) -> Result<(), Fail> {
     Ok(())
 }
 
-// How a stream ends, behind its whole messages.
-fn end(alloc: Global, text: &[u8], piece: usize) -> Result<String, NoMemory> {
-    let mut input = source(alloc, text, piece, Vec::new(alloc))?;
-    let mut room = Room::take(alloc)?;
-    for _ in 0..100 {
-        let told = next(alloc, &mut input, &mut room)?;
-        if told.as_str() == "end" || told.as_str().starts_with("no message") {
-            return Ok(told);
-        }
-    }
-    Ok(String::new(alloc))
-}
-
-#[test]
-fn the_place_of_what_is_no_message_is_told(rt: HostRuntime) -> Result<(), Fail> {
-    let cases = [
-        ("GET / HTTP/1.1\r\n\r\n", "end"),
-        (
-            "GET / HTTP/1.1\r\nContent-Length: 00000000000000000000\r\n\r\n",
-            "end",
-        ),
-        (
-            "GET / HTTP/1.1\r\nTransfer-Encoding: chunked\r\n\r\n0\r\n\r\n",
-            "no message at 0",
-        ),
-        (
-            "GET / HTTP/1.1\r\n\r\nGET / HTTP/1.1\r\nTRANSFER-encoding:\r\n\r\n",
-            "no message at 18",
-        ),
-        (
-            "GET / HTTP/1.1\r\nContent-Length: 1\r\ncontent-length: 1\r\n\r\nx",
-            "no message at 0",
-        ),
-        (
-            "GET / HTTP/1.1\r\nContent-Length: +1\r\n\r\nx",
-            "no message at 0",
-        ),
-        (
-            "GET / HTTP/1.1\r\nContent-Length:\r\n\r\n",
-            "no message at 0",
-        ),
-        (
-            "GET / HTTP/1.1\r\nContent-Length: 000000000000000000001\r\n\r\nx",
-            "no message at 0",
-        ),
-        (
-            "GET / HTTP/1.1\r\nContent-Length: 67108865\r\n\r\n",
-            "no message at 0",
-        ),
-        (
-            "GET / HTTP/1.1\r\n\r\nGET / HTTP/1.1\r\nContent-Length: 2\r\n\r\nx",
-            "no message at 18",
-        ),
-        (
-            "GET / HTTP/1.1\r\n\r\nGET / HTTP/1.1\r\n",
-            "no message at 18",
-        ),
-        ("GET / HTTP/1.1\r\n\r\n\r\n\r\n", "no message at 18"),
-        ("GET / HTTP/2.0\r\n\r\n", "no message at 0"),
-        ("GET /a b HTTP/1.1\r\n\r\n", "no message at 0"),
-        ("hello", "no message at 0"),
-    ];
-    for (text, expected) in cases {
-        for piece in [1, 1000] {
-            let told = end(rt.alloc(), text.as_bytes(), piece)?;
-            assert_eq!(rt; told.as_str(), expected, "at {text}");
-        }
-    }
-    Ok(())
-}
-
-// A message whose head has this many bytes, at least 23.
-fn head_of_size(alloc: Global, size: usize) -> Result<Vec<u8>, NoMemory> {
-    let mut text = b"GET / HTTP/1.1\r\nA: ".to_vec(alloc)?;
-    text.extend_from_slice(&vec![in alloc; b'a'; size.saturating_sub(23)]?)?;
-    text.extend_from_slice(b"\r\n\r\n")?;
-    Ok(text)
-}
-
-#[test]
-fn a_head_has_at_most_16384_bytes(rt: HostRuntime) -> Result<(), Fail> {
-    let alloc = rt.alloc();
-    for (size, expected) in [(16384, "end"), (16385, "no message at 0")] {
-        let text = head_of_size(alloc, size)?;
-        assert_eq!(rt; text.len(), size);
-        assert_eq!(rt; end(alloc, &text, 1000)?.as_str(), expected);
-    }
-    Ok(())
-}
-
-// A message with this many headers.
-fn headers_of_count(alloc: Global, count: usize) -> Result<Vec<u8>, NoMemory> {
-    let mut text = b"GET / HTTP/1.1\r\n".to_vec(alloc)?;
-    for _ in 0..count {
-        text.extend_from_slice(b"a:b\r\n")?;
-    }
-    text.extend_from_slice(b"\r\n")?;
-    Ok(text)
-}
-
-#[test]
-fn a_head_has_at_most_64_headers(rt: HostRuntime) -> Result<(), Fail> {
-    let alloc = rt.alloc();
-    for (count, expected) in [(64, "end"), (65, "no message at 0")] {
-        let text = headers_of_count(alloc, count)?;
-        assert_eq!(rt; end(alloc, &text, 1000)?.as_str(), expected);
-    }
-    Ok(())
-}
-
 #[test]
 fn a_read_that_fails_is_a_fault_of_reading(rt: HostRuntime) -> Result<(), Fail> {
     let alloc = rt.alloc();
@@ -218,100 +108,37 @@ fn a_read_that_fails_is_a_fault_of_reading(rt: HostRuntime) -> Result<(), Fail> 
     Ok(())
 }
 
-// A POST to this target with a body of this many bytes, and then a GET.
-fn body_of_size(
-    alloc: Global,
-    target: &[u8],
-    length: &[u8],
-    size: usize,
-) -> Result<Vec<u8>, NoMemory> {
-    let mut text = b"POST ".to_vec(alloc)?;
-    text.extend_from_slice(target)?;
-    text.extend_from_slice(b" HTTP/1.1\r\nContent-Length: ")?;
-    text.extend_from_slice(length)?;
-    text.extend_from_slice(b"\r\n\r\n")?;
-    text.extend_from_slice(&vec![in alloc; b' '; size]?)?;
-    text.extend_from_slice(b"GET / HTTP/1.1\r\n\r\n")?;
+// Whether the connection is to be closed behind a message with these headers, which `|` parts.
+const CLOSE: &str = "open:\n\
+    close:Connection: close\n\
+    close:connection:CLOSE\n\
+    open:Connection: keep-alive\n\
+    close:Connection: keep-alive, Close\n\
+    close:Connection: close, keep-alive\n\
+    close:Connection: keep-alive|Connection: close\n\
+    close:Connection: close|Connection: keep-alive\n\
+    close:Connection: x ,\t close\t ,y\n\
+    open:Connection:\n\
+    open:Connection: closed, clo se\n\
+    open:Connection: \"close\"\n\
+    open:X-Connection: close\n\
+    open:Connection: upgrade|Upgrade: close";
+
+// A message with these headers.
+fn with_headers(alloc: Global, headers: &str) -> Result<Vec<u8>, NoMemory> {
+    let mut text = b"GET / HTTP/1.1\r\n".to_vec(alloc)?;
+    for header in headers.split('|') {
+        text.extend_from_slice(header.as_bytes())?;
+        if !header.is_empty() {
+            text.extend_from_slice(b"\r\n")?;
+        }
+    }
+    text.extend_from_slice(b"\r\n")?;
     Ok(text)
 }
 
-// A target, the size of the body of a POST to it, and what is read.
-const BODIES: [(&str, &str, usize, &str); 4] = [
-    (
-        "/organizations",
-        "4194304",
-        4194304,
-        "POST none none nobody 0 bad",
-    ),
-    (
-        "/organizations",
-        "4194305",
-        4194305,
-        "POST none none nobody 0 too long",
-    ),
-    ("/", "4194304", 4194304, "POST none none nobody 0 empty"),
-    ("/", "4194305", 4194305, "POST none none nobody 0 too long"),
-];
-
-// What is read of a POST with a body, where the GET behind it is read too.
-fn read_sized(alloc: Global, text: Vec<u8>) -> Result<String, NoMemory> {
-    let mut input = MemSource::new(text, 100000, Vec::new(alloc));
-    let mut room = Room::take(alloc)?;
-    let first = next(alloc, &mut input, &mut room)?;
-    let second = next(alloc, &mut input, &mut room)?;
-    Ok(if second.as_str() == "GET none none nobody 0 empty" {
-        first
-    } else {
-        second
-    })
-}
-
-// What is read otherwise than it should be.
-fn unexpected_bodies(
-    alloc: Global,
-    cases: &[(&str, &str, usize, &str)],
-) -> Result<String, NoMemory> {
-    let mut told = String::new(alloc);
-    for (target, length, size, expected) in cases {
-        let text = body_of_size(alloc, target.as_bytes(), length.as_bytes(), *size)?;
-        let words = read_sized(alloc, text)?;
-        if words.as_str() != *expected {
-            told.push_str(words.as_str())?;
-        }
-    }
-    Ok(told)
-}
-
-#[test]
-fn a_body_is_read_up_to_4194304_bytes_where_it_is_looked_at(rt: HostRuntime) -> Result<(), Fail> {
-    let wrong = unexpected_bodies(rt.alloc(), &BODIES)?;
-    assert_eq!(rt; wrong.as_str(), "");
-    Ok(())
-}
-
-// Headers, and whether they say that the connection is to be closed.
-const CLOSE: [(&str, &str); 14] = [
-    ("", "open"),
-    ("Connection: close\r\n", "close"),
-    ("connection:CLOSE\r\n", "close"),
-    ("Connection: keep-alive\r\n", "open"),
-    ("Connection: keep-alive, Close\r\n", "close"),
-    ("Connection: close, keep-alive\r\n", "close"),
-    ("Connection: keep-alive\r\nConnection: close\r\n", "close"),
-    ("Connection: close\r\nConnection: keep-alive\r\n", "close"),
-    ("Connection: x ,\t close\t ,y\r\n", "close"),
-    ("Connection:\r\n", "open"),
-    ("Connection: closed, clo se\r\n", "open"),
-    ("Connection: \"close\"\r\n", "open"),
-    ("X-Connection: close\r\n", "open"),
-    ("Connection: upgrade\r\nUpgrade: close\r\n", "open"),
-];
-
-// What becomes of the connection behind a message with these headers.
-fn connection(alloc: Global, headers: &str) -> Result<&'static str, NoMemory> {
-    let mut text = b"GET / HTTP/1.1\r\n".to_vec(alloc)?;
-    text.extend_from_slice(headers.as_bytes())?;
-    text.extend_from_slice(b"\r\n")?;
+// What becomes of the connection behind a message.
+fn connection(alloc: Global, text: Vec<u8>) -> Result<&'static str, NoMemory> {
     let mut input = MemSource::new(text, 100, Vec::new(alloc));
     let mut room = Room::take(alloc)?;
     match read_message(alloc, &mut input, &mut room) {
@@ -320,21 +147,14 @@ fn connection(alloc: Global, headers: &str) -> Result<&'static str, NoMemory> {
     }
 }
 
-// The headers that say otherwise than they should.
-fn unexpected_connections(alloc: Global, cases: &[(&str, &str)]) -> Result<String, NoMemory> {
-    let mut told = String::new(alloc);
-    for (headers, expected) in cases {
-        if connection(alloc, headers)? != *expected {
-            told.push_str(headers)?;
-        }
-    }
-    Ok(told)
-}
-
 #[test]
 fn a_connection_header_closes(rt: HostRuntime) -> Result<(), Fail> {
-    let wrong = unexpected_connections(rt.alloc(), &CLOSE)?;
-    assert_eq!(rt; wrong.as_str(), "");
+    let alloc = rt.alloc();
+    for line in CLOSE.lines() {
+        let (expected, headers) = line.split_once(':').ok_or("a row")?;
+        let told = connection(alloc, with_headers(alloc, headers)?)?;
+        assert_eq!(rt; told, expected, "{headers}");
+    }
     Ok(())
 }
 
@@ -373,37 +193,47 @@ fn a_reply_has_its_status_line_two_headers_and_its_body(rt: HostRuntime) -> Resu
     Ok(())
 }
 
+const STATUSES: [u16; 15] = [
+    200, 201, 400, 401, 403, 404, 405, 406, 409, 412, 413, 500, 501, 503, 299,
+];
+
+// Their status lines, in the same order.
+const STATUS_LINES: &str = "200 OK\n\
+    201 Created\n\
+    400 Bad Request\n\
+    401 Unauthorized\n\
+    403 Forbidden\n\
+    404 Not Found\n\
+    405 Method Not Allowed\n\
+    406 Not Acceptable\n\
+    409 Conflict\n\
+    412 Precondition Failed\n\
+    413 Payload Too Large\n\
+    500 Internal Server Error\n\
+    501 Not Implemented\n\
+    503 Service Unavailable\n\
+    299 ";
+
+fn text_of(alloc: Global, status: u16) -> Result<Vec<u8>, Fail> {
+    let reply = Reply {
+        status,
+        octets: true,
+        body: Bytes::constant(b"x"),
+    };
+    let mut output = MemSink::new(alloc, Vec::new(alloc), 200)?;
+    write_reply(&mut output, &reply).ok().ok_or("a reply")?;
+    Ok(output.bytes().to_vec(alloc)?)
+}
+
 #[test]
 fn each_status_has_its_phrase(rt: HostRuntime) -> Result<(), Fail> {
-    let cases: [(u16, &str); 15] = [
-        (200, "HTTP/1.1 200 OK\r\n"),
-        (201, "HTTP/1.1 201 Created\r\n"),
-        (400, "HTTP/1.1 400 Bad Request\r\n"),
-        (401, "HTTP/1.1 401 Unauthorized\r\n"),
-        (403, "HTTP/1.1 403 Forbidden\r\n"),
-        (404, "HTTP/1.1 404 Not Found\r\n"),
-        (405, "HTTP/1.1 405 Method Not Allowed\r\n"),
-        (406, "HTTP/1.1 406 Not Acceptable\r\n"),
-        (409, "HTTP/1.1 409 Conflict\r\n"),
-        (412, "HTTP/1.1 412 Precondition Failed\r\n"),
-        (413, "HTTP/1.1 413 Payload Too Large\r\n"),
-        (500, "HTTP/1.1 500 Internal Server Error\r\n"),
-        (501, "HTTP/1.1 501 Not Implemented\r\n"),
-        (503, "HTTP/1.1 503 Service Unavailable\r\n"),
-        (299, "HTTP/1.1 299 \r\n"),
-    ];
-    for (status, line) in cases {
-        let reply = Reply {
-            status,
-            octets: true,
-            body: Bytes::constant(b"x"),
-        };
-        let mut output = MemSink::new(rt.alloc(), Vec::new(rt.alloc()), 200)?;
-        assert!(rt; write_reply(&mut output, &reply).is_ok());
-        let rest = b"Content-Type: application/octet-stream\r\nContent-Length: 1\r\n\r\nx";
-        assert!(rt; output.bytes().starts_with(line.as_bytes()));
-        assert!(rt; output.bytes().ends_with(rest));
-        assert_eq!(rt; output.bytes().len(), line.len() + rest.len());
+    let alloc = rt.alloc();
+    for (status, line) in STATUSES.iter().zip(STATUS_LINES.lines()) {
+        let told = text_of(alloc, *status)?;
+        let expected = format!(in alloc;
+            "HTTP/1.1 {line}\r\nContent-Type: application/octet-stream\r\nContent-Length: 1\r\n\r\nx"
+        )?;
+        assert_eq!(rt; told.as_slice(), expected.as_bytes(), "{status}");
     }
     Ok(())
 }
