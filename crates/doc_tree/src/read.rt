@@ -48,8 +48,8 @@ impl From<OutOfMemory> for ReadFault {
     }
 }
 
-/// The tree that JSON text says, which holds no spare room. Of a key that comes twice the last value stands, and it
-/// alone is looked at for `TooDeep` and `NotWhole`.
+/// The tree that JSON text says. Of a key that comes twice the last value stands, and it alone is looked at for
+/// `TooDeep` and `NotWhole`. Texts have the room in which they were read, which a copy of the tree hasn't.
 pub fn read_json(alloc: Global, bytes: &[u8]) -> Result<Tree, ReadFault>
     ensures { Gives result (reads bytes.now) }
 {
@@ -121,7 +121,7 @@ fn tree_from(alloc: Global, value: Value) -> Result<Tree, ReadFault>
             Some(whole) => Ok(Tree::Whole(whole)),
             None => Err(ReadFault::NotWhole),
         },
-        Value::String(text) => Ok(Tree::Words(Text::of(text))),
+        Value::String(text) => Ok(Tree::Words(Text::with_room(text))),
         Value::Array(items) => Ok(Tree::List(trees_from(alloc, items)?)),
         Value::Object(members) => Ok(Tree::Dict(fields_from(alloc, members)?)),
     }
@@ -156,7 +156,7 @@ fn fields_from(alloc: Global, members: Map<String, Value>) -> Result<Fields, Rea
 {
     let mut fields = Fields::with_capacity(alloc, members.len())?;
     for (name, member) in members {
-        fields.push(Text::of(name), tree_from(alloc, member)?)?;
+        fields.push(Text::with_room(name), tree_from(alloc, member)?)?;
     }
     Ok(fields)
 }

@@ -36,6 +36,13 @@ impl Text {
         Text { inner }
     }
 
+    /// The text of a string, which is moved with the room that it has.
+    pub(crate) fn with_room(inner: String) -> Text
+        ensures { result ≡ string_bytes inner }
+    {
+        Text { inner }
+    }
+
     /// A text of its own with the bytes of `text`.
     pub fn from_str(alloc: Global, text: &str) -> Result<Text, NoMemory>
         ensures { IfOk result (λ t. t ≡ text.now) }

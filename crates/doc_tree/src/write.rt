@@ -25,7 +25,7 @@ pub fn json_text(alloc: Global, tree: &Tree) -> Result<Bytes, NoMemory>
 {
     // What every tree keeps makes its text one that reads back.
     tree.known();
-    let mut out = Writer::new(Vec::new(alloc));
+    let mut out = Writer::new(Vec::with_capacity(alloc, room_for(tree))?);
     write_tree(&mut out, tree)?;
     Ok(Bytes::of(out.into_inner()))
 }
@@ -83,4 +83,38 @@ fn write_fields(out: &mut Writer, fields: &Fields) -> Result<(), AllocError>
         write_tree(out, &field.tree)?;
     }
     out.end_object()
+}
+
+/// The room that the text of a tree takes where nothing in it is escaped and each number has one digit: what has
+/// more goes on from there.
+#[cycle(room)]
+fn room_for(tree: &Tree) -> usize {
+    match tree {
+        Tree::Null | Tree::Bool(_) => 5,
+        Tree::Whole(_) => 1,
+        Tree::Words(text) => text.len().saturating_add(2),
+        Tree::List(trees) => room_for_trees(trees),
+        Tree::Dict(fields) => room_for_fields(fields),
+    }
+}
+
+#[cycle(room)]
+fn room_for_trees(trees: &Trees) -> usize {
+    let mut room = 2usize;
+    for tree in &trees.items {
+        room = room.saturating_add(room_for(tree)).saturating_add(1);
+    }
+    room
+}
+
+#[cycle(room)]
+fn room_for_fields(fields: &Fields) -> usize {
+    let mut room = 2usize;
+    for field in &fields.entries {
+        let key = field.key.len().saturating_add(4);
+        room = room
+            .saturating_add(key)
+            .saturating_add(room_for(&field.tree));
+    }
+    room
 }

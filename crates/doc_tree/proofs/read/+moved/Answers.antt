@@ -13,7 +13,7 @@ fields_from-push-requires t c =
     let left = c.next.new.self in
     let all : c.args.members.entries ≡ done ++ e ∷ left = c.loop-name.invariant.order ∙ ap (λ es. done ++ es) c.in-Some.ensures.steps in
     let ordered = subst (λ es. IsStrictlySortedBy string_cmp (keys_of es)) all c.into_iter-name-iterator.ensures.into_iter_gives.5 in
-    rw (c.loop-name.invariant.names, c.of.ensures) (InOrder-front done e left ordered)
+    rw (c.loop-name.invariant.names, c.with_room.ensures) (InOrder-front done e left ordered)
 
 pub fields_from-loop-name-preserved : goal.fields_from-loop-name-preserved
 fields_from-loop-name-preserved t c =
@@ -24,6 +24,6 @@ fields_from-loop-name-preserved t c =
     record {
       done = done ++ e ∷ [];
       order = all ∙ sym (append_assoc done (e ∷ []) left);
-      names = keys_of-step done e _ _ c.of.result _ c.loop-name.invariant.names c.of.ensures c.in_ok-push.ensures.ok;
-      pairs = pairs_in-step _ _ left e _ _ c.of.result _ c.in-Some.ensures.steps c.in_ok-tree_from.ensures c.of.ensures c.in_ok-push.ensures.ok c.loop-name.invariant.pairs;
+      names = keys_of-step done e _ _ c.with_room.result _ c.loop-name.invariant.names c.with_room.ensures c.in_ok-push.ensures.ok;
+      pairs = pairs_in-step _ _ left e _ _ c.with_room.result _ c.in-Some.ensures.steps c.in_ok-tree_from.ensures c.with_room.ensures c.in_ok-push.ensures.ok c.loop-name.invariant.pairs;
     }

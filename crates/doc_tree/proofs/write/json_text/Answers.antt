@@ -9,7 +9,7 @@ use Rattle.doc_tree.proofs.write.json_text.Goals as goal
 pub returns-clause-text : goal.returns-clause-text
 returns-clause-text c =
     print-doc_tokens c.of.result _ _ (doc_of c.args.tree.now) (c.of.ensures ∙ c.into_inner.ensures.items)
-    (c.in_ok-write_tree.ensures.before ∙ c.new-out.ensures.before ∙ c.new.ensures.items)
+    (c.in_ok-write_tree.ensures.before ∙ c.new-out.ensures.before ∙ c.in_ok-with_capacity.ensures.items)
     (c.in_ok-write_tree.ensures.ok ∙ ap (λ ts. ts ++ doc_tokens (doc_of c.args.tree.now)) c.new-out.ensures.tokens)
 
 pub returns-clause-reads_back : goal.returns-clause-reads_back
