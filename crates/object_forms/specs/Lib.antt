@@ -5,4 +5,4 @@ pub mod Laws
 pub mod Groups
 pub mod Objects
 pub mod Outcomes
-pub mod Rules
+pub mod Rows

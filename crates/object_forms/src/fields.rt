@@ -1,68 +1,82 @@
 //! The fields of an object, read one by one.
-ghost use Rattle.std.specs.Prelude.{map, Some, None};
+ghost use Rattle.std.specs.Prelude.{◌≤◌, length, map, Some, None};
 ghost use Rattle.doc_tree.specs.Doc.{pairs_of, words};
 ghost use Rattle.doc_tree.specs.Part.{pair_at};
 ghost use Rattle.doc_tree.specs.Tree.{doc_of};
 ghost use Rattle.object_forms.specs.Fields as spec;
 ghost use Rattle.object_forms.specs.Outcomes.{GivesFields, Leaves};
-ghost use Rattle.object_forms.specs.Rules.{row_of};
+ghost use Rattle.object_forms.specs.Rows.{row_of};
 
 use crate::fault::{FormFault, bad_field};
 use crate::forms::stored;
-use crate::rules::{Absent, Rule};
+use crate::rows::{Absent, Row};
 use doc_tree::{Fields, Text, Tree, Trees};
 use std::alloc::Global;
 
-/// The fields of these rules, put beside those of `start`.
+/// The fields of these rows, put beside those of `start`.
 pub(crate) fn fields_from(
     alloc: Global,
     start: Fields,
-    rules: &[Rule<'_>],
+    rows: &[Row<'_>],
     body: &Fields,
 ) -> Result<Fields, FormFault>
-    ensures { GivesFields result (spec.fields_of (map row_of rules.now) (pairs_of body.now) start) }
+    ensures { GivesFields result (spec.fields_of (map row_of rows.now) (pairs_of body.now) start) }
 {
     let mut made = start;
-    for rule in rules {
-        put_field(alloc, &mut made, rule, body)?;
+    for row in rows {
+        put_field(alloc, &mut made, row, body)?;
     }
     Ok(made)
+}
+
+/// How many fields these rows store: of those that a body hasn't, all but the ones that are then left out.
+pub(crate) fn count_stored(rows: &[Row<'_>], body: &Fields) -> usize
+    ensures { result ≤ length rows.now }
+{
+    let mut count = 0;
+    for row in rows {
+        let left_out = matches!(row.absent, Absent::Nothing) && body.get(row.name).is_none();
+        if !left_out {
+            count += 1;
+        }
+    }
+    count
 }
 
 /// Puts a field beside what is made.
 pub(crate) fn put_field(
     alloc: Global,
     made: &mut Fields,
-    rule: &Rule<'_>,
+    row: &Row<'_>,
     body: &Fields,
 ) -> Result<(), FormFault>
-    ensures { Leaves result made.new (spec.taken (row_of rule.now) (pair_at rule.now.name.now (pairs_of body.now)) made.old) }
+    ensures { Leaves result made.new (spec.taken (row_of row.now) (pair_at row.now.name.now (pairs_of body.now)) made.old) }
 {
-    match body.get(rule.name) {
-        None => put_unsent(alloc, made, rule),
-        Some(tree) => put_sent(alloc, made, rule, tree),
+    match body.get(row.name) {
+        None => put_unsent(alloc, made, row),
+        Some(tree) => put_sent(alloc, made, row, tree),
     }
 }
 
-fn put_unsent(alloc: Global, made: &mut Fields, rule: &Rule<'_>) -> Result<(), FormFault>
-    ensures { Leaves result made.new (spec.taken (row_of rule.now) None made.old) }
+fn put_unsent(alloc: Global, made: &mut Fields, row: &Row<'_>) -> Result<(), FormFault>
+    ensures { Leaves result made.new (spec.taken (row_of row.now) None made.old) }
 {
-    match rule.absent {
-        Absent::Fault => Err(bad_field(alloc, rule.name)),
+    match row.absent {
+        Absent::Fault => Err(bad_field(alloc, row.name)),
         Absent::Nothing => Ok(()),
-        Absent::Words(text) => put_text(alloc, made, rule.name, text),
-        Absent::False => put(alloc, made, rule.name, Tree::Bool(false)),
-        Absent::NoItems => put(alloc, made, rule.name, Tree::List(Trees::new(alloc))),
-        Absent::NoKeys => put(alloc, made, rule.name, Tree::Dict(Fields::new(alloc))),
+        Absent::Words(text) => put_text(alloc, made, row.name, text),
+        Absent::False => put(alloc, made, row.name, Tree::Bool(false)),
+        Absent::NoItems => put(alloc, made, row.name, Tree::List(Trees::new(alloc))),
+        Absent::NoKeys => put(alloc, made, row.name, Tree::Dict(Fields::new(alloc))),
     }
 }
 
-fn put_sent(alloc: Global, made: &mut Fields, rule: &Rule<'_>, tree: &Tree) -> Result<(), FormFault>
-    ensures { Leaves result made.new (spec.taken (row_of rule.now) (Some (doc_of tree.now)) made.old) }
+fn put_sent(alloc: Global, made: &mut Fields, row: &Row<'_>, tree: &Tree) -> Result<(), FormFault>
+    ensures { Leaves result made.new (spec.taken (row_of row.now) (Some (doc_of tree.now)) made.old) }
 {
-    match stored(alloc, rule.form, tree)? {
-        None => Err(bad_field(alloc, rule.name)),
-        Some(tree) => put(alloc, made, rule.name, tree),
+    match stored(alloc, row.form, tree)? {
+        None => Err(bad_field(alloc, row.name)),
+        Some(tree) => put(alloc, made, row.name, tree),
     }
 }
 

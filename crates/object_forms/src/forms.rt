@@ -4,9 +4,9 @@ ghost use Rattle.doc_tree.specs.Doc.{pairs_of};
 ghost use Rattle.doc_tree.specs.Name as names;
 ghost use Rattle.doc_tree.specs.Tree.{doc_of};
 ghost use Rattle.object_forms.specs.Forms as spec;
-ghost use Rattle.object_forms.specs.Rules.{form_of};
+ghost use Rattle.object_forms.specs.Rows.{form_of};
 
-use crate::rules::Form;
+use crate::rows::Form;
 use crate::run_lists::{stored_by_name, stored_run_list};
 use doc_tree::{Fields, NoMemory, Text, Tree, is_name};
 use std::alloc::Global;

@@ -7,7 +7,7 @@ mod forms;
 mod groups;
 mod laws;
 mod objects;
-mod rules;
+mod rows;
 mod run_lists;
 mod tables;
 #[cfg(test)]

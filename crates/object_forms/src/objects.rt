@@ -7,13 +7,13 @@ ghost use Rattle.object_forms.specs.Forms as forms;
 ghost use Rattle.object_forms.specs.Kinds as kinds;
 ghost use Rattle.object_forms.specs.Objects as spec;
 ghost use Rattle.object_forms.specs.Outcomes.{Gives};
-ghost use Rattle.object_forms.specs.Rules.{form_of, row_of};
+ghost use Rattle.object_forms.specs.Rows.{form_of, row_of};
 
 use crate::fault::{FormFault, bad_field};
-use crate::fields::{fields_from, put_field};
+use crate::fields::{count_stored, fields_from, put_field};
 use crate::forms::{is_dict, is_exactly};
 use crate::groups::read_group;
-use crate::rules::{Absent, Form, Rule};
+use crate::rows::{Absent, Form, Row};
 use crate::tables::table_of;
 use doc_tree::{Fields, Kind, Name, NoMemory, Tree};
 use std::alloc::Global;
@@ -65,9 +65,9 @@ fn object_in(
     ensures object { Gives result (spec.object_in kind (option_copied name.entry) (pairs_of body.now)) }
 {
     let mut made = beside(alloc, kind, body)?;
-    put_field(alloc, &mut made, &name_rule(kind, name), body)?;
+    put_field(alloc, &mut made, &name_row(kind, name), body)?;
     let made = fields_from(alloc, made, table_of(kind), body)?;
-    Ok(Tree::Dict(made))
+    Ok(Tree::Dict(without_room(alloc, kind, body, made)?))
 }
 
 fn is_item(kind: Kind) -> bool
@@ -96,16 +96,16 @@ fn key_of(kind: Kind) -> &'static str
 }
 
 /// The field that names an object.
-fn name_rule<'a>(kind: Kind, name: Option<&'a Name>) -> Rule<'a>
+fn name_row<'a>(kind: Kind, name: Option<&'a Name>) -> Row<'a>
     ensures { row_of result ≡ spec.name_row kind (option_copied name.entry) }
 {
     match name {
-        None => Rule {
+        None => Row {
             name: key_of(kind),
             form: name_form(kind),
             absent: Absent::Fault,
         },
-        Some(name) => Rule {
+        Some(name) => Row {
             name: key_of(kind),
             form: Form::Exactly(name.as_str()),
             absent: Absent::Words(name.as_str()),
@@ -130,7 +130,7 @@ fn is_no_id(kind: Kind, name: Option<&Name>) -> bool
     }
 }
 
-/// What an object has beside its fields.
+/// What an object has beside its fields, with room for just these.
 #[tactic(auto, using(doc_tree::proofs::Docs::back))]
 fn beside(alloc: Global, kind: Kind, body: &Fields) -> Result<Fields, NoMemory>
     ensures { IfOk result (λ made. made ≡ spec.beside kind (pairs_of body.now)) }
@@ -138,7 +138,18 @@ fn beside(alloc: Global, kind: Kind, body: &Fields) -> Result<Fields, NoMemory>
     if is_item(kind) {
         body.copy(alloc)
     } else {
-        Ok(Fields::new(alloc))
+        Fields::with_capacity(alloc, 1 + count_stored(table_of(kind), body))
+    }
+}
+
+/// What was made, with no spare room: only an item whose body has no id took more room for it.
+fn without_room(alloc: Global, kind: Kind, body: &Fields, made: Fields) -> Result<Fields, NoMemory>
+    ensures { IfOk result (λ kept. kept ≡ made) }
+{
+    if is_item(kind) && body.get("id").is_none() {
+        made.copy(alloc)
+    } else {
+        Ok(made)
     }
 }
 

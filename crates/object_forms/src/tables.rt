@@ -1,59 +1,59 @@
 //! The fields of each kind of object, in the order in which they are looked at.
 ghost use Rattle.std.specs.Prelude.{◌≡◌, [], map, unwrap_or};
 ghost use Rattle.object_forms.specs.Kinds.{table};
-ghost use Rattle.object_forms.specs.Rules.{row_of};
+ghost use Rattle.object_forms.specs.Rows.{row_of};
 
-use crate::rules::{Absent, Form, Rule};
+use crate::rows::{Absent, Form, Row};
 use doc_tree::Kind;
 
 /// A node, behind its name.
-static NODE: [Rule<'static>; 10] = [
-    Rule {
+static NODE: [Row<'static>; 10] = [
+    Row {
         name: "chef_type",
         form: Form::Exactly("node"),
         absent: Absent::Words("node"),
     },
-    Rule {
+    Row {
         name: "json_class",
         form: Form::Exactly("Chef::Node"),
         absent: Absent::Words("Chef::Node"),
     },
-    Rule {
+    Row {
         name: "chef_environment",
         form: Form::Name,
         absent: Absent::Words("_default"),
     },
-    Rule {
+    Row {
         name: "run_list",
         form: Form::Items,
         absent: Absent::NoItems,
     },
-    Rule {
+    Row {
         name: "normal",
         form: Form::Dict,
         absent: Absent::NoKeys,
     },
-    Rule {
+    Row {
         name: "default",
         form: Form::Dict,
         absent: Absent::NoKeys,
     },
-    Rule {
+    Row {
         name: "override",
         form: Form::Dict,
         absent: Absent::NoKeys,
     },
-    Rule {
+    Row {
         name: "automatic",
         form: Form::Dict,
         absent: Absent::NoKeys,
     },
-    Rule {
+    Row {
         name: "policy_name",
         form: Form::Name,
         absent: Absent::Nothing,
     },
-    Rule {
+    Row {
         name: "policy_group",
         form: Form::Name,
         absent: Absent::Nothing,
@@ -61,38 +61,38 @@ static NODE: [Rule<'static>; 10] = [
 ];
 
 /// A role, behind its name.
-static ROLE: [Rule<'static>; 7] = [
-    Rule {
+static ROLE: [Row<'static>; 7] = [
+    Row {
         name: "chef_type",
         form: Form::Exactly("role"),
         absent: Absent::Words("role"),
     },
-    Rule {
+    Row {
         name: "json_class",
         form: Form::Exactly("Chef::Role"),
         absent: Absent::Words("Chef::Role"),
     },
-    Rule {
+    Row {
         name: "description",
         form: Form::Text,
         absent: Absent::Words(""),
     },
-    Rule {
+    Row {
         name: "run_list",
         form: Form::Items,
         absent: Absent::NoItems,
     },
-    Rule {
+    Row {
         name: "env_run_lists",
         form: Form::ItemsByName,
         absent: Absent::NoKeys,
     },
-    Rule {
+    Row {
         name: "default_attributes",
         form: Form::Dict,
         absent: Absent::NoKeys,
     },
-    Rule {
+    Row {
         name: "override_attributes",
         form: Form::Dict,
         absent: Absent::NoKeys,
@@ -100,33 +100,33 @@ static ROLE: [Rule<'static>; 7] = [
 ];
 
 /// An environment, behind its name.
-static ENVIRONMENT: [Rule<'static>; 6] = [
-    Rule {
+static ENVIRONMENT: [Row<'static>; 6] = [
+    Row {
         name: "chef_type",
         form: Form::Exactly("environment"),
         absent: Absent::Words("environment"),
     },
-    Rule {
+    Row {
         name: "json_class",
         form: Form::Exactly("Chef::Environment"),
         absent: Absent::Words("Chef::Environment"),
     },
-    Rule {
+    Row {
         name: "description",
         form: Form::Text,
         absent: Absent::Words(""),
     },
-    Rule {
+    Row {
         name: "cookbook_versions",
         form: Form::ConstraintsByName,
         absent: Absent::NoKeys,
     },
-    Rule {
+    Row {
         name: "default_attributes",
         form: Form::Dict,
         absent: Absent::NoKeys,
     },
-    Rule {
+    Row {
         name: "override_attributes",
         form: Form::Dict,
         absent: Absent::NoKeys,
@@ -134,14 +134,14 @@ static ENVIRONMENT: [Rule<'static>; 6] = [
 ];
 
 /// A client, behind its name.
-static CLIENT: [Rule<'static>; 1] = [Rule {
+static CLIENT: [Row<'static>; 1] = [Row {
     name: "validator",
     form: Form::Truth,
     absent: Absent::False,
 }];
 
 /// The fields of a kind behind its name or id.
-pub(crate) fn table_of(kind: Kind) -> &'static [Rule<'static>]
+pub(crate) fn table_of(kind: Kind) -> &'static [Row<'static>]
     ensures { map row_of result.now ≡ unwrap_or (table kind) [] }
 {
     match kind {

@@ -1,4 +1,4 @@
-//! The rules of fields, as they stand in the tables.
+//! The rows of the tables of fields.
 
 /// The form of a field.
 #[derive(Clone, Copy, Drop)]
@@ -37,7 +37,7 @@ pub(crate) enum Absent<'a> {
 
 /// A field of a kind of object.
 #[derive(Clone, Copy, Drop)]
-pub(crate) struct Rule<'a> {
+pub(crate) struct Row<'a> {
     pub(crate) name: &'static str,
     pub(crate) form: Form<'a>,
     pub(crate) absent: Absent<'a>,

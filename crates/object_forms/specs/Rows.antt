@@ -3,11 +3,11 @@ use Rattle.std.specs.Prelude.{false}
 use Rattle.doc_tree.specs.Doc.{boolean, words, list, dict, no_docs, no_pairs}
 use Rattle.object_forms.specs.Forms as form
 use Rattle.object_forms.specs.Fields as fields
-use Rattle.object_forms.specs.declared.rules.Form.{Form}
-use Rattle.object_forms.specs.declared.rules.Form.TheVariants.{Name, Id, Text, Exactly, Truth, Dict, Items, ItemsByName, ConstraintsByName}
-use Rattle.object_forms.specs.declared.rules.Absent.{Absent}
-use Rattle.object_forms.specs.declared.rules.Absent.TheVariants.{Fault, Nothing, Words, False, NoItems, NoKeys}
-use Rattle.object_forms.specs.declared.rules.Rule.{Rule}
+use Rattle.object_forms.specs.declared.rows.Form.{Form}
+use Rattle.object_forms.specs.declared.rows.Form.TheVariants.{Name, Id, Text, Exactly, Truth, Dict, Items, ItemsByName, ConstraintsByName}
+use Rattle.object_forms.specs.declared.rows.Absent.{Absent}
+use Rattle.object_forms.specs.declared.rows.Absent.TheVariants.{Fault, Nothing, Words, False, NoItems, NoKeys}
+use Rattle.object_forms.specs.declared.rows.Row.{Row}
 
 -- the form that stands in a table
 abbrev pub form_of : Form → form.Form
@@ -31,5 +31,5 @@ absent_of NoItems = fields.stands (list no_docs)
 absent_of NoKeys = fields.stands (dict no_pairs)
 
 -- the row of a field
-abbrev pub row_of : Rule → fields.Row
-row_of rule = record { name = rule.name.now; form = form_of rule.form; absent = absent_of rule.absent }
+abbrev pub row_of : Row → fields.Row
+row_of row = record { name = row.name.now; form = form_of row.form; absent = absent_of row.absent }
