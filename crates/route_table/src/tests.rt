@@ -1,115 +1,84 @@
 //! Paths, their methods and marks, and what is left out.
 use crate::table::marked;
-use crate::{Availability, MarkedVerb, ROUTES, Routes, Row, Verb, is_left_out};
+use crate::{Availability, Found, MarkedVerb, ROUTES, Routes, Row, Verb, is_left_out};
 use doc_tree::{NoMemory, Text};
 use std::alloc::Global;
 use std::test::Fail;
 
 // A path, and what it is in the table.
-const PATHS: [(&str, &str); 33] = [
-    ("/organizations", "Some(Organisations)"),
-    ("/organizations/acme", "Some(Organisation)"),
-    ("/organizations/organizations", "Some(Organisation)"),
-    ("/organizations/acme/nodes", "Some(Nodes)"),
-    ("/organizations/acme/nodes/web", "Some(Node)"),
-    ("/organizations/acme/nodes/é", "Some(Node)"),
-    ("/organizations/acme/nodes/_acl", "Some(Node)"),
-    ("/organizations/acme/nodes/web/_acl", "Some(AccessList)"),
-    (
-        "/organizations/acme/nodes/web/_acl/read",
-        "Some(AccessEntry)",
-    ),
-    ("/organizations/acme/cookbooks/web/_acl", "Some(AccessList)"),
-    (
-        "/organizations/acme/cookbooks/web/1.0.0",
-        "Some(CookbookVersion)",
-    ),
-    ("/organizations/acme/cookbooks/web/1.0.0/x", "None"),
-    (
-        "/organizations/acme/cookbooks/web/_acl/read",
-        "Some(AccessEntry)",
-    ),
-    ("/organizations/acme/cookbook_artifacts/web", "None"),
-    (
-        "/organizations/acme/cookbook_artifacts/web/1",
-        "Some(Artifact)",
-    ),
-    ("/organizations/acme/data/_acl", "Some(DataBag)"),
-    ("/organizations/acme/data/_acl/x", "Some(DataBagItem)"),
-    ("/organizations/acme/data/x/_acl", "Some(AccessList)"),
-    (
-        "/organizations/acme/environments/prod/cookbook_versions",
-        "Some(SolvedVersions)",
-    ),
-    ("/organizations/acme/environments/prod/other", "None"),
-    (
-        "/organizations/acme/policies/p/revisions/1",
-        "Some(Revision)",
-    ),
-    ("/organizations/acme/policy_groups/g/policies", "None"),
-    (
-        "/organizations/acme/policy_groups/g/policies/p",
-        "Some(Assignment)",
-    ),
-    ("/organizations/acme/nodes/a/b", "None"),
-    ("/organizations/acme/users/ann/_acl", "None"),
-    ("/organizations/acme/sandboxes/1/_acl", "None"),
-    ("/organizations/acme/files", "None"),
-    ("/organizations/acme/", "None"),
-    ("/organizations//nodes", "None"),
-    ("/Organizations", "None"),
-    ("/nodes", "None"),
-    ("/", "None"),
-    ("", "None"),
-];
+const PATHS: &str = "/organizations => Some(Organisations)
+/organizations/acme => Some(Organisation)
+/organizations/organizations => Some(Organisation)
+/organizations/acme/nodes => Some(Nodes)
+/organizations/acme/nodes/web => Some(Node)
+/organizations/acme/nodes/é => Some(Node)
+/organizations/acme/nodes/_acl => Some(Node)
+/organizations/acme/nodes/web/_acl => Some(AccessList)
+/organizations/acme/nodes/web/_acl/read => Some(AccessEntry)
+/organizations/acme/cookbooks/web/_acl => Some(AccessList)
+/organizations/acme/cookbooks/web/1.0.0 => Some(CookbookVersion)
+/organizations/acme/cookbooks/web/1.0.0/x => None
+/organizations/acme/cookbooks/web/_acl/read => Some(AccessEntry)
+/organizations/acme/cookbook_artifacts/web => None
+/organizations/acme/cookbook_artifacts/web/1 => Some(Artifact)
+/organizations/acme/data/_acl => Some(DataBag)
+/organizations/acme/data/_acl/x => Some(DataBagItem)
+/organizations/acme/data/x/_acl => Some(AccessList)
+/organizations/acme/environments/prod/cookbook_versions => Some(SolvedVersions)
+/organizations/acme/environments/prod/other => None
+/organizations/acme/policies/p/revisions/1 => Some(Revision)
+/organizations/acme/policy_groups/g/policies => None
+/organizations/acme/policy_groups/g/policies/p => Some(Assignment)
+/organizations/acme/nodes/a/b => None
+/organizations/acme/users/ann/_acl => None
+/organizations/acme/sandboxes/1/_acl => None
+/organizations/acme/files => None
+/organizations/acme/ => None
+/organizations//nodes => None
+/Organizations => None
+/nodes => None
+/ => None
+ => None
+";
 
 // A path, and the methods that it has, each with its mark.
-const METHODS: [(&str, &str); 10] = [
-    ("/organizations", "GET built, POST built, "),
-    ("/organizations/acme", "GET built, "),
-    ("/organizations/acme/nodes", "GET built, POST built, "),
-    (
-        "/organizations/acme/nodes/web",
-        "GET built, PUT built, DELETE built, ",
-    ),
-    (
-        "/organizations/acme/groups/admins",
-        "GET later, PUT later, DELETE later, ",
-    ),
-    ("/organizations/acme/data/b/_acl", "GET later, "),
-    ("/organizations/acme/policies/p/_acl/read", "PUT later, "),
-    ("/organizations/acme/files/1", "GET later, PUT later, "),
-    ("/organizations/acme/search/node", "GET later, POST later, "),
-    ("/organizations/acme/nowhere", "none"),
-];
+const METHODS: &str = "/organizations => GET built, POST built
+/organizations/acme => GET built
+/organizations/acme/nodes => GET built, POST built
+/organizations/acme/nodes/web => GET built, PUT built, DELETE built
+/organizations/acme/groups/admins => GET later, PUT later, DELETE later
+/organizations/acme/data/b/_acl => GET later
+/organizations/acme/policies/p/_acl/read => PUT later
+/organizations/acme/files/1 => GET later, PUT later
+/organizations/acme/search/node => GET later, POST later
+/organizations/acme/nowhere => none
+";
 
 // A path, and whether it is left out.
-const LEFT_OUT: [(&str, bool); 15] = [
-    ("/users", true),
-    ("/users/ann/keys", true),
-    ("/authenticate_user", true),
-    ("/authenticate_user/x", true),
-    ("/organizations/acme/association_requests", true),
-    ("/organizations/acme/association_requests/1", true),
-    ("/organizations/acme/principals/ann", true),
-    ("/organizations/acme/required_recipe", true),
-    ("/organizations/acme/users", false),
-    ("/organizations/users", false),
-    ("/organizations/acme/nodes/principals", false),
-    ("/principals", false),
-    ("/userss", false),
-    ("/organizations", false),
-    ("", false),
-];
+const LEFT_OUT: &str = "/users => true
+/users/ann/keys => true
+/authenticate_user => true
+/authenticate_user/x => true
+/organizations/acme/association_requests => true
+/organizations/acme/association_requests/1 => true
+/organizations/acme/principals/ann => true
+/organizations/acme/required_recipe => true
+/organizations/acme/users => false
+/organizations/users => false
+/organizations/acme/nodes/principals => false
+/principals => false
+/userss => false
+/organizations => false
+ => false
+";
 
-// The methods, as they stand in the table of methods.
-const VERBS: [(Verb, &str); 5] = [
-    (Verb::Get, "GET "),
-    (Verb::Post, "POST "),
-    (Verb::Put, "PUT "),
-    (Verb::Delete, "DELETE "),
-    (Verb::Other, "other "),
-];
+// What is told of a path.
+#[derive(Clone, Copy)]
+enum Telling {
+    Path,
+    Methods,
+    LeftOut,
+}
 
 // The segments of a path; one in braces, as a pattern has them, stands for a name.
 fn segments_of(alloc: Global, path: &str) -> Result<Vec<Text>, NoMemory> {
@@ -122,28 +91,6 @@ fn segments_of(alloc: Global, path: &str) -> Result<Vec<Text>, NoMemory> {
 
 fn segment_of(alloc: Global, piece: &str) -> Result<Text, NoMemory> {
     Text::from_str(alloc, if piece.starts_with('{') { "x" } else { piece })
-}
-
-fn found(alloc: Global, routes: &Routes, path: &str) -> Result<String, NoMemory> {
-    let segments = segments_of(alloc, path)?;
-    let found = routes.find(alloc, &segments)?.map(|found| found.path());
-    Ok(format!(in alloc; "{found:?}")?)
-}
-
-// The paths that are found otherwise than they should be.
-fn unexpected_paths(
-    alloc: Global,
-    routes: &Routes,
-    cases: &[(&str, &str)],
-) -> Result<String, NoMemory> {
-    let mut told = String::new(alloc);
-    for (path, expected) in cases {
-        let found = found(alloc, routes, path)?;
-        if found.as_str() != *expected {
-            told.push_str(path)?;
-        }
-    }
-    Ok(told)
 }
 
 // The patterns by which their own path isn't found.
@@ -159,79 +106,103 @@ fn unfound_patterns(alloc: Global, routes: &Routes, rows: &[Row]) -> Result<Stri
     Ok(told)
 }
 
-fn mark(availability: Availability) -> &'static str {
-    match availability {
-        Availability::Built => "built, ",
-        Availability::Later => "later, ",
-        Availability::Lacking => "lacking, ",
-    }
-}
-
-fn methods_of(
-    alloc: Global,
-    routes: &Routes,
-    verbs: &[(Verb, &str)],
-    path: &str,
-) -> Result<String, NoMemory> {
-    let mut told = String::new(alloc);
-    let segments = segments_of(alloc, path)?;
-    let Some(found) = routes.find(alloc, &segments)? else {
-        return Ok(String::from_str(alloc, "none")?);
+// Adds a method and its mark to those that a path has.
+fn add_method(told: &mut String, name: &str, availability: Availability) -> Result<(), NoMemory> {
+    let mark = match availability {
+        Availability::Built => "built",
+        Availability::Later => "later",
+        Availability::Lacking => return Ok(()),
     };
-    for (verb, name) in verbs {
-        let availability = found.availability(*verb);
-        if availability != Availability::Lacking {
-            told.push_str(name)?;
-            told.push_str(mark(availability))?;
-        }
+    if !told.is_empty() {
+        told.push_str(", ")?;
     }
+    told.push_str(name)?;
+    told.push_str(" ")?;
+    told.push_str(mark)?;
+    Ok(())
+}
+
+fn methods_of(alloc: Global, found: Found) -> Result<String, NoMemory> {
+    let mut told = String::new(alloc);
+    add_method(&mut told, "GET", found.availability(Verb::Get))?;
+    add_method(&mut told, "POST", found.availability(Verb::Post))?;
+    add_method(&mut told, "PUT", found.availability(Verb::Put))?;
+    add_method(&mut told, "DELETE", found.availability(Verb::Delete))?;
+    add_method(&mut told, "other", found.availability(Verb::Other))?;
     Ok(told)
 }
 
-// What the paths have, where it is otherwise than it should be.
-fn unexpected_methods(
+fn methods_told(alloc: Global, found: Option<Found>) -> Result<String, NoMemory> {
+    match found {
+        Some(found) => methods_of(alloc, found),
+        None => Ok(String::from_str(alloc, "none")?),
+    }
+}
+
+fn path_told(alloc: Global, found: Option<Found>) -> Result<String, NoMemory> {
+    let path = found.map(|found| found.path());
+    Ok(format!(in alloc; "{path:?}")?)
+}
+
+fn told(
     alloc: Global,
     routes: &Routes,
-    verbs: &[(Verb, &str)],
-    cases: &[(&str, &str)],
+    telling: Telling,
+    segments: &[Text],
 ) -> Result<String, NoMemory> {
-    let mut told = String::new(alloc);
-    for (path, expected) in cases {
-        let methods = methods_of(alloc, routes, verbs, path)?;
-        if methods.as_str() != *expected {
-            told.push_str(methods.as_str())?;
-        }
+    match telling {
+        Telling::Path => path_told(alloc, routes.find(alloc, segments)?),
+        Telling::Methods => methods_told(alloc, routes.find(alloc, segments)?),
+        Telling::LeftOut => Ok(format!(in alloc; "{}", is_left_out(segments))?),
     }
-    Ok(told)
 }
 
-// The paths that are left out, or aren't, otherwise than they should be.
-fn unexpectedly_left_out(alloc: Global, cases: &[(&str, bool)]) -> Result<String, NoMemory> {
-    let mut told = String::new(alloc);
-    for (path, expected) in cases {
-        let segments = segments_of(alloc, path)?;
-        if is_left_out(&segments) != *expected {
-            told.push_str(path)?;
+// A line, as the routes tell its path.
+fn line_told(
+    alloc: Global,
+    routes: &Routes,
+    telling: Telling,
+    line: &str,
+) -> Result<String, NoMemory> {
+    let (path, _) = line.split_once(" => ").unwrap_or((line, ""));
+    let segments = segments_of(alloc, path)?;
+    let told = told(alloc, routes, telling, &segments)?;
+    Ok(format!(in alloc; "{path} => {told}")?)
+}
+
+// The lines that the routes tell otherwise.
+fn lines_otherwise(
+    alloc: Global,
+    routes: &Routes,
+    telling: Telling,
+    lines: &str,
+) -> Result<String, NoMemory> {
+    let mut otherwise = String::new(alloc);
+    for line in lines.lines() {
+        let told = line_told(alloc, routes, telling, line)?;
+        if told.as_str() != line {
+            otherwise.push_str(told.as_str())?;
+            otherwise.push_str("\n")?;
         }
     }
-    Ok(told)
+    Ok(otherwise)
 }
 
 #[test]
 fn paths_are_found_by_their_segments(rt: HostRuntime) -> Result<(), Fail> {
     let routes = Routes::take(rt.alloc())?;
-    let wrong = unexpected_paths(rt.alloc(), &routes, &PATHS)?;
-    assert_eq!(rt; wrong.as_str(), "");
-    let wrong = unfound_patterns(rt.alloc(), &routes, &ROUTES)?;
-    assert_eq!(rt; wrong.as_str(), "");
+    let otherwise = lines_otherwise(rt.alloc(), &routes, Telling::Path, PATHS)?;
+    assert_eq!(rt; otherwise.as_str(), "");
+    let unfound = unfound_patterns(rt.alloc(), &routes, &ROUTES)?;
+    assert_eq!(rt; unfound.as_str(), "");
     Ok(())
 }
 
 #[test]
 fn paths_have_their_methods(rt: HostRuntime) -> Result<(), Fail> {
     let routes = Routes::take(rt.alloc())?;
-    let wrong = unexpected_methods(rt.alloc(), &routes, &VERBS, &METHODS)?;
-    assert_eq!(rt; wrong.as_str(), "");
+    let otherwise = lines_otherwise(rt.alloc(), &routes, Telling::Methods, METHODS)?;
+    assert_eq!(rt; otherwise.as_str(), "");
     assert!(rt; Verb::Get.is_get() && Verb::Post.is_post());
     Ok(())
 }
@@ -255,7 +226,8 @@ fn each_method_has_its_own_mark(rt: HostRuntime) {
 
 #[test]
 fn left_out_paths_are_told_by_their_first_segments(rt: HostRuntime) -> Result<(), Fail> {
-    let wrong = unexpectedly_left_out(rt.alloc(), &LEFT_OUT)?;
-    assert_eq!(rt; wrong.as_str(), "");
+    let routes = Routes::take(rt.alloc())?;
+    let otherwise = lines_otherwise(rt.alloc(), &routes, Telling::LeftOut, LEFT_OUT)?;
+    assert_eq!(rt; otherwise.as_str(), "");
     Ok(())
 }
