@@ -4,61 +4,56 @@ use std::alloc::{AllocError, Global};
 use std::test::Fail;
 
 // What was sent, and what it is: the text that is stored and what it names, or the fault.
-const ITEMS: [(&str, &str); 49] = [
-    ("recipe[a]", "recipe[a]: a default"),
-    ("recipe[a::x]", "recipe[a::x]: a x"),
-    ("recipe[a::x@1.2.3]", "recipe[a::x@1.2.3]: a x 1.2.3"),
-    ("recipe[a@1.2.3]", "recipe[a@1.2.3]: a default 1.2.3"),
-    ("a", "recipe[a]: a default"),
-    ("a::x", "recipe[a::x]: a x"),
-    ("a@01.2.3", "recipe[a@01.2.3]: a default 1.2.3"),
-    ("a::x@2.0", "recipe[a::x@2.0]: a x 2.0.0"),
-    ("My-a_2.x::in.st", "recipe[My-a_2.x::in.st]: My-a_2.x in.st"),
-    ("role", "recipe[role]: role default"),
-    ("recipe::role", "recipe[recipe::role]: recipe role"),
-    ("role[web.s-1_A]", "role[web.s-1_A]: role web.s-1_A"),
-    ("role[recipe]", "role[recipe]: role recipe"),
-    ("role[", NO_ITEM),
-    ("recipe[", NO_ITEM),
-    ("", NO_ITEM),
-    ("recipe[]", NO_ITEM),
-    ("role[]", NO_ITEM),
-    ("recipe[a", NO_ITEM),
-    ("role[a", NO_ITEM),
-    ("a]", NO_ITEM),
-    ("recipe[a]]", NO_ITEM),
-    ("recipe[a]x", NO_ITEM),
-    ("recipe[a] ", NO_ITEM),
-    ("role[a::b]", NO_ITEM),
-    ("role[a@1.0.0]", NO_ITEM),
-    ("a::", NO_ITEM),
-    ("::a", NO_ITEM),
-    ("a::b::c", NO_ITEM),
-    ("a:b", NO_ITEM),
-    ("a:::b", NO_ITEM),
-    ("a b", NO_ITEM),
-    (" a", NO_ITEM),
-    ("recipe[ a ]", NO_ITEM),
-    ("Recipe[a]", NO_ITEM),
-    ("@1.0.0", NO_ITEM),
-    ("recipe[@1.0]", NO_ITEM),
-    ("recipe[a@1", NO_ITEM),
-    ("recipe[a@1.0.0", NO_ITEM),
-    ("a b@1.0.0", NO_ITEM),
-    ("é", NO_ITEM),
-    ("recipe[a@1]", BAD_VERSION),
-    ("recipe[a@]", BAD_VERSION),
-    ("a@", BAD_VERSION),
-    ("a::x@1.2.3.4", BAD_VERSION),
-    ("a@1.0@2.0", BAD_VERSION),
-    ("a@ 1.0", BAD_VERSION),
-    ("a@1.0]", BAD_VERSION),
-    ("recipe[a::b@1.18446744073709551616]", BAD_VERSION),
-];
-
-const NO_ITEM: &str = "not an item";
-
-const BAD_VERSION: &str = "not a version behind @";
+const ITEMS: &str = "recipe[a] => recipe[a]: a default
+recipe[a::x] => recipe[a::x]: a x
+recipe[a::x@1.2.3] => recipe[a::x@1.2.3]: a x 1.2.3
+recipe[a@1.2.3] => recipe[a@1.2.3]: a default 1.2.3
+a => recipe[a]: a default
+a::x => recipe[a::x]: a x
+a@01.2.3 => recipe[a@01.2.3]: a default 1.2.3
+a::x@2.0 => recipe[a::x@2.0]: a x 2.0.0
+My-a_2.x::in.st => recipe[My-a_2.x::in.st]: My-a_2.x in.st
+role => recipe[role]: role default
+recipe::role => recipe[recipe::role]: recipe role
+role[web.s-1_A] => role[web.s-1_A]: role web.s-1_A
+role[recipe] => role[recipe]: role recipe
+role[ => not an item
+recipe[ => not an item
+ => not an item
+recipe[] => not an item
+role[] => not an item
+recipe[a => not an item
+role[a => not an item
+a] => not an item
+recipe[a]] => not an item
+recipe[a]x => not an item
+recipe[a]  => not an item
+role[a::b] => not an item
+role[a@1.0.0] => not an item
+a:: => not an item
+::a => not an item
+a::b::c => not an item
+a:b => not an item
+a:::b => not an item
+a b => not an item
+ a => not an item
+recipe[ a ] => not an item
+Recipe[a] => not an item
+@1.0.0 => not an item
+recipe[@1.0] => not an item
+recipe[a@1 => not an item
+recipe[a@1.0.0 => not an item
+a b@1.0.0 => not an item
+é => not an item
+recipe[a@1] => not a version behind @
+recipe[a@] => not a version behind @
+a@ => not a version behind @
+a::x@1.2.3.4 => not a version behind @
+a@1.0@2.0 => not a version behind @
+a@ 1.0 => not a version behind @
+a@1.0] => not a version behind @
+recipe[a::b@1.18446744073709551616] => not a version behind @
+";
 
 fn described(alloc: Global, item: &Item) -> Result<String, AllocError> {
     let text = item.text();
@@ -82,6 +77,26 @@ fn told(alloc: Global, sent: &str) -> Result<String, AllocError> {
     }
 }
 
+// A line, as what was sent is read.
+fn line_told(alloc: Global, line: &str) -> Result<String, AllocError> {
+    let (sent, _) = line.split_once(" => ").unwrap_or((line, ""));
+    let told = told(alloc, sent)?;
+    format!(in alloc; "{sent} => {told}")
+}
+
+// The lines that are read otherwise.
+fn lines_otherwise(alloc: Global, lines: &str) -> Result<String, AllocError> {
+    let mut otherwise = String::new(alloc);
+    for line in lines.lines() {
+        let told = line_told(alloc, line)?;
+        if told.as_str() != line {
+            otherwise.push_str(told.as_str())?;
+            otherwise.push_str("\n")?;
+        }
+    }
+    Ok(otherwise)
+}
+
 fn letters(alloc: Global, count: usize) -> Result<String, AllocError> {
     let mut name = String::new(alloc);
     for _ in 0..count {
@@ -100,10 +115,8 @@ fn read(alloc: Global, sent: &str) -> Result<Item, ItemFault> {
 
 #[test]
 fn items_are_read_and_stored(rt: HostRuntime) -> Result<(), Fail> {
-    for (sent, expected) in ITEMS {
-        let told = told(rt.alloc(), sent)?;
-        assert_eq!(rt; told.as_str(), expected, "{sent}");
-    }
+    let otherwise = lines_otherwise(rt.alloc(), ITEMS)?;
+    assert_eq!(rt; otherwise.as_str(), "");
     Ok(())
 }
 
