@@ -1,15 +1,12 @@
 -- The documents of access lists, read one by one and read back.
-use Rattle.std.proofs.Common.{◌≡◌, ◌<◌, ◌+◌, ◌==◌, ℕ, List, [], ◌∷◌, ◌++◌, map, length, drop, get_or, Option, Some, None, option_map, option_and_then, codes, true, if◌then◌else◌, refl, sym, ap, ◌∙◌}
+use Rattle.std.proofs.Common.{◌≡◌, ◌<◌, ◌+◌, ℕ, List, [], ◌∷◌, ◌++◌, map, length, drop, get_or, Some, None, option_map, option_and_then, true, if◌then◌else◌, refl, sym, ap, ◌∙◌}
 use Rattle.std.proofs.lemmas.List.{drop_more}
-use Rattle.doc_tree.specs.Doc.{Doc, words, docs_of, pairs_of}
+use Rattle.doc_tree.specs.Doc.{words, docs_of}
 use Rattle.doc_tree.specs.Tree.{doc_of}
 use Rattle.doc_tree.specs.declared.tree.Tree.{Tree}
 use Rattle.access_lists.specs.declared.acl.Acl.{Acl}
 use Rattle.access_lists.specs.declared.acl.Entry.{Entry}
-use Rattle.access_lists.specs.declared.perm.Perm.TheVariants.{Create, Read, Update, Delete, Grant}
-use Rattle.access_lists.specs.Acls.{word_of}
-use Rattle.access_lists.specs.Forms.{are_texts, text_before, texts_among, texts_in, entry_with, entry_in, entry_at, acl_in, texts_doc, entry_doc, acl_doc, IsEntry, IsAcl}
-use Rattle.access_lists.specs.TextSets.{in_order}
+use Rattle.access_lists.specs.Forms.{are_texts, text_before, texts_among, texts_in, entry_with, entry_in, acl_in, texts_doc, entry_doc, acl_doc, IsEntry, IsAcl}
 use Rattle.access_lists.proofs.TextSetLemmas.{in_order-rising}
 
 -- after one more tree, the texts are those so far, and then those of the trees that are left

@@ -5,10 +5,10 @@ use Rattle.std.specs.FinMap as finite
 use Rattle.std.specs.FinSet as set
 use Rattle.access_lists.specs.declared.lists.GroupLists.{GroupLists}
 use Rattle.access_lists.specs.declared.lists.GroupRow.{GroupRow}
-use Rattle.access_lists.specs.TextSets.{text_cmp, lists, without, Names}
-use Rattle.access_lists.specs.Members.{Members, GroupsByName, Membership}
+use Rattle.access_lists.specs.TextSets.{lists, without, Names}
+use Rattle.access_lists.specs.Members.{GroupsByName}
 use Rattle.access_lists.specs.NameSets.{seen}
-use Rattle.access_lists.specs.Lists.{members_in, with_rows, membership_in}
+use Rattle.access_lists.specs.Lists.{members_in, with_rows}
 use Rattle.access_lists.specs.Laws.{FollowsLists, FollowsRow, TakesTheLast}
 use Rattle.access_lists.proofs.SearchLemmas.{text_cmp_ties}
 use Rattle.access_lists.proofs.NameSetLemmas.{seen-remove}

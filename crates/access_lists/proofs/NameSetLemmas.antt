@@ -1,5 +1,5 @@
 -- The set that is seen, against the names that are kept.
-use Rattle.std.proofs.Common.{◌≡◌, ◌||◌, ◌&&◌, ◌<◌, ◌+◌, Bool, true, false, cond, not, ℕ, List, [], ◌∷◌, ◌++◌, length, take, get_or, bytes_eq, refl, sym, ap, ◌∙◌, Result, Ok, Err, IsOk, OnOk}
+use Rattle.std.proofs.Common.{◌≡◌, ◌||◌, ◌&&◌, ◌<◌, ◌+◌, Bool, true, false, cond, not, ℕ, List, length, take, get_or, bytes_eq, refl, sym, ap, ◌∙◌, Result, Ok, Err, IsOk, OnOk}
 use Rattle.std.proofs.lemmas.List.{take_more}
 use Rattle.std.specs.Cmp.Lexicographic.{nat_list_cmp_total, nat_list_eq_equiv}
 use Rattle.std.specs.FinSet as set

@@ -1,7 +1,6 @@
 -- Who is permitted, case by case.
-use Rattle.std.proofs.Common.{◌≡◌, ◌↔◌, ◌<◌, ◌≤◌, ◌+◌, ◌⊎◌, inl, inr, Bool, true, false, ℕ, zero, suc, List, [], ◌∷◌, length, slice_index_or, get_or, bytes_eq, Any, Contains, IsTrue, refl, sym, ap, subst, ◌∙◌, ◌||◌, true≢false, arith}
+use Rattle.std.proofs.Common.{◌≡◌, ◌↔◌, ◌<◌, ◌≤◌, ◌+◌, ◌⊎◌, inl, inr, Bool, true, false, ℕ, zero, suc, List, [], ◌∷◌, length, slice_index_or, get_or, bytes_eq, Any, IsTrue, refl, sym, ap, subst, ◌∙◌, ◌||◌, true≢false, arith}
 use Rattle.std.specs.Cmp.Lexicographic.{bytes_decides}
-use Rattle.std.specs.List.{list_any}
 use Rattle.std.proofs.lemmas.Bool.{cases_lt}
 use Rattle.indexmap.proofs.CallerLemmas.{Contains-list_any}
 use Rattle.access_lists.specs.declared.acl.Entry.{Entry}

@@ -1,10 +1,9 @@
 -- What lists of users, clients and groups say.
-use Rattle.std.specs.Prelude.{ℕ, List, [], ◌∷◌}
+use Rattle.std.specs.Prelude.{List, [], ◌∷◌}
 use Rattle.std.specs.FinMap as finite
 use Rattle.std.specs.FinSet as set
 use Rattle.access_lists.specs.declared.lists.GroupLists.{GroupLists}
 use Rattle.access_lists.specs.declared.lists.GroupRow.{GroupRow}
-use Rattle.access_lists.specs.TextSets.{text_cmp}
 use Rattle.access_lists.specs.Members.{Members, GroupsByName, Membership}
 
 -- the members that a row lists

@@ -2,7 +2,7 @@
 use Rattle.std.specs.Prelude.{◌≡◌, ◌≢◌, ℕ, nat_le, if◌then◌else◌, List, map, unwrap_or, refl}
 use Rattle.std.specs.Coded.{Coded, code_by, coded×, coded_ℕ}
 use Rattle.std.specs.FinMap as finite
-use Rattle.access_lists.specs.TextSets.{text_cmp, Names}
+use Rattle.access_lists.specs.TextSets.{Names}
 use Rattle.access_lists.specs.Members.{Members, GroupsByName, Membership, Rooms, name_code, names_code, members_code, groups_code, membership_code}
 
 -- the smaller of two numbers

@@ -1,5 +1,5 @@
 -- Replies that are the small machine's have its bytes.
-use Rattle.std.proofs.Common.{◌≡◌, ℕ, List, [], ◌∷◌, ◌++◌, None, map, sym, ap, refl, ◌∙◌}
+use Rattle.std.proofs.Common.{◌≡◌, List, [], ◌∷◌, ◌++◌, None, map, sym, ap, refl, ◌∙◌}
 use Rattle.std.specs.List.{flat_map}
 use Rattle.org_core.specs.States.{State}
 use Rattle.org_machine.specs.Alone.{Exchange, Alone, RunsAlone, asked_in, own, nobody, replies_alone}

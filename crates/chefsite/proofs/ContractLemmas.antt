@@ -1,5 +1,5 @@
 -- What a run promises, put together of what its parts do.
-use Rattle.std.proofs.Common.{◌≡◌, ◌≢◌, ◌⊎◌, ◌↔◌, ℕ, List, Option, Some, None, inl, inr, refl, sym, ap, ◌∙◌, subst}
+use Rattle.std.proofs.Common.{◌≡◌, ◌⊎◌, ℕ, List, Option, Some, inl, inr, refl, sym, ap, ◌∙◌, subst}
 use Rattle.std.specs.Option.{option_map}
 use Rattle.std.specs.declared.process.ExitCode.{ExitCode}
 use Rattle.outside_core.specs.Failed.{Rose}
@@ -7,13 +7,12 @@ use Rattle.outside_disk.specs.Disk.{Files, IsFile}
 use Rattle.chefsite.specs.declared.statuses.Status.{Status}
 use Rattle.chefsite.specs.declared.statuses.Status.TheVariants.{Done, Usage, ReadFault, WriteFault, NoMemory, NotAMessage, BadFile}
 use Rattle.chefsite.specs.declared.words.Command.{Command}
-use Rattle.chefsite.specs.Words.{IsCommand, answer, explain, command_of}
-use Rattle.chefsite.specs.Words as words
+use Rattle.chefsite.specs.Words.{command_of}
 use Rattle.chefsite.specs.Reading.{told}
 use Rattle.chefsite.specs.Endings.{Says, HasStatusCause, TellsRest, IsComplete}
 use Rattle.chefsite.specs.Explaining.{HasNoSources, IsExplainedBy, SaysOfFile, HasFileCause}
 use Rattle.chefsite.specs.Notes.{IsNoted}
-use Rattle.chefsite.specs.Theorems.{Course, IsUntouched, Answered, Explained, Performed}
+use Rattle.chefsite.specs.Theorems.{Course, IsUntouched, Answered, Explained}
 use Rattle.chefsite.specs.Exits.{EndsNoted, EndsAsRan}
 
 -- a run of `answer` that did what its status says

@@ -13,7 +13,6 @@ use Rattle.org_core.specs.States.{Kept, state_in, name_cmp}
 use Rattle.org_core.specs.declared.requests.Request.{Request}
 use Rattle.org_core.specs.Refusals.{out_of_memory}
 use Rattle.org_machine.specs.Marks.{mark_of}
-use Rattle.org_machine.specs.Steps.{step}
 use Rattle.org_machine.specs.Alone.{States, steps, lists, is_listing, Lists, listing, IsDue, IsAnsweredBy}
 use Rattle.chefsite.specs.declared.shards.Shard.{Shard}
 use Rattle.chefsite.specs.Organisations.{state_at}

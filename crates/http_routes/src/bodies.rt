@@ -60,6 +60,8 @@ pub fn body_of(alloc: Global, form: BodyForm, bytes: &[u8]) -> Result<Body, NoMe
     }
 }
 
+// Apart, since the frame of a reader of JSON is large, and a request without a body needn't pay for it.
+#[inline(never)]
 fn body_from(alloc: Global, bytes: &[u8]) -> Result<Body, NoMemory>
     ensures { IfOk result (λ body. body ≡ spec.body_from (reads bytes.now)) }
 {

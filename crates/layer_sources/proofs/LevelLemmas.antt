@@ -1,5 +1,5 @@
 -- Layers that are sorted by their levels can be merged.
-use Rattle.std.proofs.Common.{◌≡◌, ℕ, ◌≤◌, Bool, true, false, ◌&&◌, cond, List, [], ◌∷◌, ◌++◌, Option, Some, None, option_map, option_and_then, nat_le, nat_eq, ◌==◌, codes, refl, sym, ap, subst, ◌∙◌, eqb-true, true≢false, arith, append_assoc, append-nil, length, drop, get_or, ◌<◌, ◌+◌}
+use Rattle.std.proofs.Common.{◌≡◌, ℕ, ◌≤◌, Bool, true, false, ◌&&◌, cond, List, [], ◌∷◌, ◌++◌, Option, Some, None, option_map, option_and_then, nat_le, ◌==◌, codes, refl, sym, ap, ◌∙◌, eqb-true, true≢false, arith, append_assoc, append-nil, length, drop, get_or, ◌<◌, ◌+◌}
 use Rattle.std.specs.List.{filter_map, flat_map, cons_option}
 use Rattle.std.proofs.lemmas.Bool.Decides.{nat_tests}
 use Rattle.std.proofs.lemmas.List.{drop_all, drop_more}

@@ -1,5 +1,5 @@
 -- The layers that a sources file gives.
-use Rattle.std.specs.Prelude.{ℕ, ℤ, pos, negsuc, Bool, true, false, ◌&&◌, ◌==◌, nat_le, cond, List, [], ◌∷◌, Option, Some, None, Result, Ok, Err, option_and_then, option_map, codes, is_some}
+use Rattle.std.specs.Prelude.{ℕ, ℤ, pos, negsuc, Bool, ◌&&◌, ◌==◌, nat_le, cond, List, [], ◌∷◌, Option, Some, None, Result, Ok, Err, option_and_then, option_map, codes, is_some}
 use Rattle.std.specs.List.{filter_map, flat_map, list_all}
 use Rattle.doc_tree.specs.Doc.{Doc, null, boolean, whole, words, list, dict, docs_list}
 use Rattle.doc_tree.specs.Part.{part_at}

@@ -1,9 +1,9 @@
 -- A group is named as it should be, and what a body gave is read as itself.
-use Rattle.std.proofs.Common.{◌≡◌, ℕ, List, [], ◌∷◌, Bool, true, false, cond, IsTrue, IfSome, IfOk, Option, Some, None, option_map, option_and_then, is_some, Result, Ok, Err, bytes_eq, codes, refl, sym, ap, subst, ◌∙◌}
+use Rattle.std.proofs.Common.{◌≡◌, ℕ, List, [], Bool, true, false, cond, IsTrue, IfSome, IfOk, Option, Some, None, option_map, option_and_then, is_some, Result, Ok, Err, bytes_eq, codes, refl, sym, ap, subst, ◌∙◌}
 use Rattle.std.proofs.lemmas.Option.{same_Some}
 use Rattle.std.specs.Cmp.Lexicographic.{nat_list_eq_equiv}
 use Rattle.std.specs.List.Sorted.{IsStrictlySortedBy}
-use Rattle.doc_tree.specs.Doc.{Doc, null, boolean, whole, words, list, dict, Pairs, docs_of, pairs_of}
+use Rattle.doc_tree.specs.Doc.{Doc, null, boolean, whole, words, list, dict, Pairs}
 use Rattle.doc_tree.specs.Name.{is_name}
 use Rattle.doc_tree.specs.Part.{pair_at}
 use Rattle.doc_tree.specs.Tree.{doc_of}
@@ -16,7 +16,7 @@ use Rattle.access_lists.proofs.FormsLemmas.{texts_back}
 use Rattle.access_lists.proofs.TextSetLemmas.{in_order-again, in_order-rising}
 use Rattle.object_forms.specs.declared.fault.FormFault.{FormFault}
 use Rattle.object_forms.specs.Forms.{is_text, name_from}
-use Rattle.object_forms.specs.Groups.{group_key, group_name, members_from, actors_doc, actors_of, actors_from, nobody, sent_actors, group_actors, group_doc, group_with, group_named, group_in, group_from}
+use Rattle.object_forms.specs.Groups.{group_key, group_name, members_from, actors_doc, actors_from, nobody, sent_actors, group_actors, group_doc, group_with, group_named, group_from}
 use Rattle.object_forms.specs.Kinds.{is_group}
 use Rattle.object_forms.specs.Objects.{name_in, NamedBy, HasName}
 use Rattle.object_forms.specs.Outcomes.{Gives}

@@ -12,7 +12,7 @@ use Rattle.doc_tree.specs.declared.kind.Kind.TheVariants.{Org, Node, Role, Envir
 use Rattle.doc_tree.specs.declared.tree.Tree.{Tree}
 use Rattle.object_forms.specs.Fields.{Row, Absent, fault, nothing, stands, unsent, sent, taken, then_do, fields_of}
 use Rattle.object_forms.specs.Forms as forms
-use Rattle.object_forms.specs.Forms.{stored, kept, is_text, is_id, name_from}
+use Rattle.object_forms.specs.Forms.{stored, is_text, is_id, name_from}
 use Rattle.object_forms.specs.Kinds.{table, is_item}
 use Rattle.object_forms.specs.Objects.{key_of, name_row, name_form, rows, beside, made_of, object_in, NamedBy, HasName}
 use Rattle.object_forms.specs.Outcomes.{Gives}

@@ -1,5 +1,5 @@
 -- What is stored of a body has its name, and an item has an id.
-use Rattle.std.proofs.Common.{◌≡◌, ℕ, List, [], ◌∷◌, Bool, true, false, cond, not, ◌&&◌, IsTrue, IfSome, Option, Some, None, option_and_then, Result, Ok, Err, bytes_eq, codes, refl, sym, ap, subst, ◌∙◌}
+use Rattle.std.proofs.Common.{◌≡◌, ℕ, List, [], Bool, true, false, cond, ◌&&◌, IsTrue, IfSome, Option, Some, None, option_and_then, Result, Ok, Err, bytes_eq, codes, refl, sym, ap, subst, ◌∙◌}
 use Rattle.std.proofs.lemmas.Option.{same_Some}
 use Rattle.doc_tree.specs.Doc.{Doc, null, boolean, whole, words, list, dict, Pairs, pairs_of, pairs_list}
 use Rattle.doc_tree.specs.Name.{is_name}
@@ -7,12 +7,11 @@ use Rattle.doc_tree.specs.Part.{pair_at}
 use Rattle.doc_tree.specs.declared.kind.Kind.{Kind}
 use Rattle.doc_tree.specs.declared.kind.Kind.TheVariants.{Org, Node, Role, Environment, Bag, Client, User, Group, Container, Item, Cookbook, Artifact, Policy, PolicyGroup, Acl, Sandbox, File}
 use Rattle.object_forms.specs.Fields.{sent, taken, then_do, fields_of}
-use Rattle.object_forms.specs.Forms.{an_id, stored, kept, is_text, is_id, name_from}
+use Rattle.object_forms.specs.Forms.{is_text, is_id, name_from}
 use Rattle.object_forms.specs.Objects.{key_of, name_row, is_no_id, made_of, object_of, object_from, by_table, body_of, name_in, HasName}
 use Rattle.object_forms.proofs.GroupLemmas.{named_doc}
 use Rattle.object_forms.proofs.NamedLemmas.{same_Ok, named_made}
 use Rattle.object_forms.proofs.PairLemmas.{pair_at-own}
-use Rattle.object_forms.proofs.SettledLemmas.{kept_test}
 
 named_of : (kind : Kind) (path : Option (List ℕ)) (body object : Doc) → IfSome path (λ n. IsTrue (is_name n)) → object_of kind path body ≡ Ok object → HasName kind path object
 named_of kind path null object known is = cc

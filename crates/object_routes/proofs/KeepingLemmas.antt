@@ -1,5 +1,5 @@
 -- What these groups do keeps the conditions of an organisation's objects.
-use Rattle.std.proofs.Common.{◌≡◌, ℕ, List, [], ◌∷◌, ◌++◌, map, Bool, true, false, cond, not, ◌&&◌, ◌||◌, IsTrue, IsFalse, IfSome, Option, Some, None, is_some, option_and_then, Result, Ok, Err, bytes_eq, codes, refl, sym, ap, subst, ◌∙◌}
+use Rattle.std.proofs.Common.{◌≡◌, ℕ, List, [], ◌∷◌, Bool, true, false, cond, not, ◌&&◌, IsTrue, IsFalse, IfSome, Option, Some, None, is_some, option_and_then, Result, Ok, Err, bytes_eq, codes, refl, sym, ap, subst, ◌∙◌}
 use Rattle.std.proofs.lemmas.Bool.{and_parts}
 use Rattle.std.proofs.lemmas.Option.{same_Some}
 use Rattle.std.specs.Cmp.Lexicographic.{bytes_decides}
@@ -9,12 +9,12 @@ use Rattle.doc_tree.specs.Name.{is_name}
 use Rattle.doc_tree.specs.Part.{part_at}
 use Rattle.doc_tree.specs.declared.kind.Kind.{Kind}
 use Rattle.doc_tree.specs.declared.kind.Kind.TheVariants as kinds
-use Rattle.object_forms.specs.Forms.{is_id, name_from}
+use Rattle.object_forms.specs.Forms.{name_from}
 use Rattle.object_forms.specs.Kinds.{is_item}
-use Rattle.object_forms.specs.Objects.{object_from, key_of, name_in, HasName}
+use Rattle.object_forms.specs.Objects.{object_from, key_of, name_in}
 use Rattle.object_forms.proofs.ReadBackLemmas.{reads_back}
 use Rattle.object_forms.proofs.StoredLemmas.{named_from, id_from}
-use Rattle.object_store.specs.Items.{item_name, ids_in}
+use Rattle.object_store.specs.Items.{item_name}
 use Rattle.object_store.specs.Objects.{key, key_cmp}
 use Rattle.object_store.specs.declared.key.Key.{Key}
 use Rattle.route_table.specs.declared.verbs.Verb.{Verb}
@@ -26,7 +26,7 @@ use Rattle.org_core.specs.Conditions.{IsNamed, IsItem, IsStored, MeetsConditions
 use Rattle.org_core.specs.Keeping.{LeadsToConditions, KeepsConditions}
 use Rattle.org_core.specs.Moves.{after_moves}
 use Rattle.org_core.specs.Refusals.{refuses}
-use Rattle.org_core.specs.States.{State, objects_of, has_object}
+use Rattle.org_core.specs.States.{State, has_object}
 use Rattle.org_core.specs.declared.collections.Collection.{Collection}
 use Rattle.org_core.specs.declared.collections.Collection.TheVariants.{Nodes, Roles, Environments, Clients}
 use Rattle.org_core.specs.declared.moves.Move.TheVariants as move
@@ -38,9 +38,9 @@ use Rattle.org_core.specs.declared.routes.DataRoute.TheVariants as data_route
 use Rattle.org_core.specs.declared.routes.ObjectsRoute.{ObjectsRoute}
 use Rattle.org_core.specs.declared.routes.ObjectsRoute.TheVariants.{All, One}
 use Rattle.org_core.proofs.ConditionsLemmas.{same_keys, keeps_first, put_keeps, take_out_keeps, bag_removal_keeps, one_bag}
-use Rattle.object_routes.specs.Bodies.{or_bad_field, object_said, object_in_body, absent}
+use Rattle.object_routes.specs.Bodies.{or_bad_field, object_said, object_in_body}
 use Rattle.object_routes.specs.DataBags.{data_rules, data_asked, post_item, put_item, id_of, lacks_bag, lacks_item}
-use Rattle.object_routes.specs.Objects.{objects_rules, objects_asked, text_of, named_by, name_of, put_one, is_fixed}
+use Rattle.object_routes.specs.Objects.{objects_rules, objects_asked, text_of, name_of, put_one, is_fixed}
 use Rattle.object_routes.specs.Operations.{creating, replacing, creating_bag, creating_item, replacing_item}
 use Rattle.object_routes.specs.Organisations.{organisation_rules, creation, default_environment}
 use Rattle.object_routes.specs.declared.operations.DataOperation.{DataOperation}

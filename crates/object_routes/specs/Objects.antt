@@ -1,6 +1,6 @@
 -- The routes of nodes, roles, environments and clients: one rule for all four collections, and what
 -- one of them adds.
-use Rattle.std.specs.Prelude.{Bool, true, false, not, cond, ◌||◌, ◌&&◌, ℕ, List, [], ◌∷◌, ◌++◌, Option, Some, None, codes, bytes_eq, Result, Ok, Err}
+use Rattle.std.specs.Prelude.{Bool, true, false, not, ◌||◌, ◌&&◌, ℕ, List, [], ◌∷◌, ◌++◌, Option, Some, None, codes, bytes_eq, Result, Ok, Err}
 use Rattle.doc_tree.specs.Doc.{Doc, null, boolean, whole, words, list, dict}
 use Rattle.doc_tree.specs.Part.{part_at}
 use Rattle.doc_tree.specs.Name.{is_name}
@@ -16,7 +16,6 @@ use Rattle.org_core.specs.declared.needs.Need.{Need}
 use Rattle.org_core.specs.declared.needs.Need.TheVariants.{Listed}
 use Rattle.org_core.specs.declared.needs.Permission.TheVariants as permission
 use Rattle.org_core.specs.declared.requests.Body.{Body}
-use Rattle.org_core.specs.declared.requests.Request.{Request}
 use Rattle.org_core.specs.declared.routes.ObjectsRoute.{ObjectsRoute}
 use Rattle.org_core.specs.declared.routes.ObjectsRoute.TheVariants.{All, One}
 use Rattle.org_core.specs.declared.refusals.Refusal.{Refusal}

@@ -12,7 +12,6 @@ use Rattle.org_core.specs.declared.needs.Need.TheVariants.{Operator}
 use Rattle.org_core.specs.declared.needs.Permission.TheVariants as permission
 use Rattle.org_core.specs.declared.refusals.Refusal.{Refusal}
 use Rattle.org_core.specs.declared.refusals.Refusal.TheVariants.{AlreadyExists, NotAllowed}
-use Rattle.org_core.specs.declared.requests.Request.{Request}
 use Rattle.org_core.specs.declared.routes.OrganisationRoute.{OrganisationRoute}
 use Rattle.org_core.specs.declared.routes.OrganisationRoute.TheVariants.{Create, Whole}
 use Rattle.org_core.specs.Contexts.{Context}

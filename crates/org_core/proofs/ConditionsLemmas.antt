@@ -1,5 +1,5 @@
 -- Moves that keep the conditions of an organisation's objects.
-use Rattle.std.proofs.Common.{◌≡◌, ℕ, List, [], ◌∷◌, ◌++◌, map, filter, Bool, true, false, cond, ◌||◌, ◌==◌, Option, Some, None, is_some, codes, bytes_eq, refl, sym, ap, subst, ◌∙◌, append_assoc}
+use Rattle.std.proofs.Common.{◌≡◌, ℕ, List, [], ◌∷◌, ◌++◌, map, Bool, true, false, cond, ◌||◌, Option, Some, None, is_some, codes, bytes_eq, refl, sym, ap, subst, ◌∙◌, append_assoc}
 use Rattle.std.proofs.lemmas.Bool.{and_parts}
 use Rattle.std.proofs.lemmas.Option.{same_Some}
 use Rattle.std.specs.Cmp.{tied_itself}
@@ -15,7 +15,7 @@ use Rattle.doc_tree.specs.declared.kind.Kind.{Kind}
 use Rattle.doc_tree.specs.declared.kind.Kind.TheVariants.{Environment, Bag, Item}
 use Rattle.object_store.proofs.ItemsLemmas.{behind_front-joined}
 use Rattle.object_store.specs.Items.{behind_front, item_front, item_name, ids_in}
-use Rattle.object_store.specs.Keys.{same_key, is_of, names_of, key_cmp_total, key_cmp_ties}
+use Rattle.object_store.specs.Keys.{is_of, names_of, key_cmp_total, key_cmp_ties}
 use Rattle.object_store.specs.Objects.{Objects, key, key_cmp}
 use Rattle.object_store.specs.declared.key.Key.{Key}
 use Rattle.org_core.specs.declared.moves.Move.{Move}

@@ -1,5 +1,5 @@
 -- The moves that change a state. A request makes a list of them, in order.
-use Rattle.std.specs.Prelude.{◌≡◌, Bool, true, false, ℕ, List, [], ◌∷◌, Option, Some, None, length, filter}
+use Rattle.std.specs.Prelude.{Bool, true, false, ℕ, List, [], ◌∷◌, Some, None, length, filter}
 use Rattle.std.specs.FinMap as map
 use Rattle.org_core.specs.declared.moves.Move.{Move}
 use Rattle.org_core.specs.declared.moves.Move.TheVariants.{Open, Put, TakeOut}

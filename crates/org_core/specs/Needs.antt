@@ -1,6 +1,5 @@
 -- The permissions that an operation needs, and the first that its caller lacks.
 use Rattle.std.specs.Prelude.{Bool, false, cond, List, [], ◌∷◌, Option, Some, None}
-use Rattle.object_store.specs.declared.key.Key.{Key}
 use Rattle.org_core.specs.declared.needs.Need.{Need}
 use Rattle.org_core.specs.declared.needs.Need.TheVariants.{Operator, Listed}
 use Rattle.org_core.specs.declared.needs.Permission.{Permission}

@@ -11,7 +11,7 @@ use Rattle.org_core.specs.Outcomes.{Decided, unless}
 use Rattle.org_core.specs.Refusals.{refuses}
 use Rattle.org_core.specs.Rules.{Rules}
 use Rattle.org_core.specs.States.{State}
-use Rattle.org_machine.specs.Order.{permitted, found, operated, by_operation, answered_by}
+use Rattle.org_machine.specs.Order.{permitted, found, by_operation, answered_by}
 
 -- a refusal changes nothing, and where none stands what was decided leads to a state that meets the conditions
 pub unless_keeps : (state : State) (refusal : Option Refusal) (done : Decided) → MeetsConditions state → (refusal ≡ None → LeadsToConditions state done) → LeadsToConditions state (unless refusal done)

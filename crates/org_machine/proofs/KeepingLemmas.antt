@@ -1,5 +1,5 @@
 -- Each step keeps the conditions of an organisation's objects.
-use Rattle.std.proofs.Common.{◌≡◌, ℕ, List, [], ◌∷◌, Option, Some, None, Result, Ok, Err}
+use Rattle.std.proofs.Common.{ℕ, List, [], ◌∷◌, Option, None}
 use Rattle.doc_tree.specs.Doc.{dict, no_pairs}
 use Rattle.org_core.specs.declared.needs.Need.TheVariants.{Operator}
 use Rattle.org_core.specs.declared.needs.Permission.TheVariants as permission
@@ -26,7 +26,7 @@ use Rattle.org_machine.proofs.AnsweredLemmas.{unless_keeps, answered_keeps}
 use Rattle.org_machine.specs.Heads.{head_refusal}
 use Rattle.org_machine.specs.Marks.{Mark, served, short, down, after}
 use Rattle.org_machine.specs.Order.{absence_refusal}
-use Rattle.org_machine.specs.Steps.{at_route, asks_for_organisation, context, at_organisations, at_place, decided, step}
+use Rattle.org_machine.specs.Steps.{at_route, asks_for_organisation, context, at_organisations, at_place, step}
 
 -- a route keeps the conditions by the law of its group, one line a group
 at_route_keeps : (context : Context) (route : Route) (request : Request) → MeetsConditions context.state → LeadsToConditions context.state (at_route context route request)

@@ -1,5 +1,5 @@
 -- What is of no organisation is answered the same in every state.
-use Rattle.std.proofs.Common.{◌≡◌, ◌⊎◌, inl, inr, ℕ, List, [], ◌∷◌, Bool, false, cond, Option, Some, None, Result, Ok, Err, refl, sym, ap, subst, ◌∙◌}
+use Rattle.std.proofs.Common.{◌≡◌, inl, inr, ℕ, List, [], ◌∷◌, Bool, false, cond, Option, Some, None, refl, sym, ap, subst, ◌∙◌}
 use Rattle.org_core.specs.declared.refusals.Refusal.{Refusal}
 use Rattle.org_core.specs.declared.replies.Reply.{Reply}
 use Rattle.doc_tree.specs.Doc.{dict, no_pairs}
@@ -11,15 +11,14 @@ use Rattle.org_core.specs.declared.requests.Place.{Place}
 use Rattle.org_core.specs.declared.requests.Place.TheVariants.{Of, Organisations, LeftOut, NoRoute, NoMemory}
 use Rattle.org_core.specs.declared.requests.Request.{Request}
 use Rattle.org_core.specs.Outcomes.{Decided, shows, tells, unless, outcome_of}
-use Rattle.org_core.specs.Refusals.{out_of_memory}
 use Rattle.org_core.specs.Requests.{org_at, org_of}
 use Rattle.org_core.specs.States.{State}
 use Rattle.route_table.specs.declared.verbs.Verb.{Verb}
 use Rattle.route_table.specs.declared.verbs.Verb.TheVariants.{Get, Post, Put, Delete, Other}
 use Rattle.org_machine.proofs.PreparedLemmas.{step_is_served}
-use Rattle.org_machine.specs.Alone.{States, Outside, lists, steps, is_listing, IsDue, IsAnsweredBy}
+use Rattle.org_machine.specs.Alone.{States, lists, steps, is_listing, IsDue, IsAnsweredBy}
 use Rattle.org_machine.specs.Heads.{head_refusal}
-use Rattle.org_machine.specs.Marks.{Mark, mark_of, served, short}
+use Rattle.org_machine.specs.Marks.{Mark, mark_of, served}
 use Rattle.org_machine.specs.Serving.{IsOrShort}
 use Rattle.org_machine.specs.Steps.{at_organisations, at_place, context, step}
 

@@ -1,8 +1,7 @@
 -- A request that was prepared as the step says, or refused for want of memory, is answered as its mark says.
-use Rattle.std.proofs.Common.{◌≡◌, ◌≤◌, ◌+◌, ◌⊎◌, ℕ, List, [], ◌∷◌, Result, Ok, Err, inl, inr, refl, sym, ap, subst, ◌∙◌, arith}
+use Rattle.std.proofs.Common.{◌≡◌, ◌≤◌, ◌+◌, ◌⊎◌, ℕ, List, [], Result, Ok, Err, inl, inr, refl, sym, ap, subst, ◌∙◌, arith}
 use Rattle.org_core.specs.declared.groups.Prepared.{Prepared}
 use Rattle.org_core.specs.declared.moves.Move.{Move}
-use Rattle.org_core.specs.declared.needs.Permission.TheVariants as permission
 use Rattle.org_core.specs.declared.refusals.Refusal.{Refusal}
 use Rattle.org_core.specs.declared.refusals.Refusal.TheVariants.{TooLarge, VersionNotTaken, NotImplemented, NotFound, NotAllowed, UnknownCaller, NotJson, TooDeep, NotWhole, BadField, Forbidden, AlreadyExists}
 use Rattle.org_core.specs.declared.requests.Request.{Request}
@@ -10,8 +9,8 @@ use Rattle.org_core.specs.Moves.{after_moves, puts_in}
 use Rattle.org_core.specs.Outcomes.{Told, shows, makes, gives, Done, Decided, Finds, reply_of, outcome_of, LooksAtMost}
 use Rattle.org_core.specs.Refusals.{reply_to, out_of_memory}
 use Rattle.org_core.specs.States.{State, Kept, room_in}
-use Rattle.org_machine.specs.Marks.{Mark, mark_of, served, short, answer, after, IsLawful}
-use Rattle.org_machine.specs.Serving.{IsGood, ComesWith, IsDue, IsShort, Does, Looks}
+use Rattle.org_machine.specs.Marks.{mark_of, served, short, answer, after, IsLawful}
+use Rattle.org_machine.specs.Serving.{IsGood, ComesWith, Does, Looks}
 use Rattle.org_machine.specs.Steps.{decided, step, looks}
 
 -- what is told of an operation is served

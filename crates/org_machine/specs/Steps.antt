@@ -1,6 +1,6 @@
 -- One request on one organisation's state: what the head refuses, whether the organisation has to be there,
 -- and then the rules of the route's group, one line a group.
-use Rattle.std.specs.Prelude.{Bool, true, false, ℕ, List, [], ◌∷◌, Option, Some, None, Result, Ok, Err, codes}
+use Rattle.std.specs.Prelude.{Bool, true, false, ℕ, List, [], ◌∷◌, Option, None, Result, Ok, Err, codes}
 use Rattle.doc_tree.specs.Doc.{Doc, dict, no_pairs}
 use Rattle.route_table.specs.declared.verbs.Verb.{Verb}
 use Rattle.route_table.specs.declared.verbs.Verb.TheVariants.{Get, Post, Put, Delete, Other}

@@ -1,5 +1,5 @@
 -- What stands behind the front of a name.
-use Rattle.std.proofs.Common.{◌≡◌, ℕ, Bool, true, false, List, [], ◌∷◌, ◌++◌, length, take, drop, Option, Some, None, MatchOption, nat_eq, bytes_eq, if◌then◌else◌, sym, ap, subst, refl, ◌∙◌, codes, option_copied, append_assoc}
+use Rattle.std.proofs.Common.{◌≡◌, ℕ, true, false, List, ◌++◌, length, take, drop, Option, Some, None, MatchOption, nat_eq, if◌then◌else◌, sym, ap, subst, refl, ◌∙◌, codes, option_copied, append_assoc}
 use Rattle.std.specs.Borrow.{Bor}
 use Rattle.std.specs.Cmp.Lexicographic.{bytes_decides}
 use Rattle.std.specs.List.{starts_with}

@@ -1,7 +1,7 @@
 -- What a disk in memory holds.
-use Rattle.std.specs.Prelude.{ℕ, ◌-◌, Bool, ◌||◌, List, Option, Some, bytes_eq, length, nat_lt}
+use Rattle.std.specs.Prelude.{ℕ, List, bytes_eq}
 use Rattle.std.specs.Map.{lookup}
-use Rattle.outside_core.specs.Failures.{Plan, is_due}
+use Rattle.outside_core.specs.Failures.{Plan}
 use Rattle.outside_disk.specs.Disk.{Files}
 
 -- the files, the room for bytes that are still to be written, and which calls fail

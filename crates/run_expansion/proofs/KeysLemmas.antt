@@ -1,5 +1,5 @@
 -- Keys of recipes are compared by an equivalence, and the loops note each key once.
-use Rattle.std.proofs.Common.{◌≡◌, ℕ, Bool, true, false, ◌&&◌, nat_eq, List, [], ◌∷◌, ◌++◌, map, take, length, ◌<◌, ◌+◌, get_or, Option, Some, None, refl, sym, ap, subst, ◌∙◌, bytes_eq, cond, ◌≤◌}
+use Rattle.std.proofs.Common.{◌≡◌, ℕ, Bool, true, false, ◌&&◌, List, [], ◌∷◌, ◌++◌, map, take, length, ◌<◌, ◌+◌, get_or, Option, Some, None, refl, sym, ap, subst, ◌∙◌, bytes_eq, cond, ◌≤◌}
 use Rattle.std.proofs.lemmas.List.{take_more, take_all, map-append}
 use Rattle.std.specs.Option.{option_eq}
 use Rattle.std.specs.Cmp.{IsEquivalence, on_equiv, and_equiv, nat_eq_equiv}
@@ -12,7 +12,7 @@ use Rattle.std.specs.List.{list_any}
 use Rattle.indexmap.specs.IndexSet.{insert_key}
 use Rattle.run_expansion.specs.Visits.{Run}
 use Rattle.run_expansion.specs.Keys.{key_of, run_of, same_key}
-use Rattle.run_expansion.specs.Firsts.{firsts, same_recipe, same_run, same_version}
+use Rattle.run_expansion.specs.Firsts.{firsts, same_recipe, same_version}
 use Rattle.run_expansion.proofs.FirstsLemmas.{Noted, one_more}
 
 -- what is the same or missing on both sides is compared by an equivalence

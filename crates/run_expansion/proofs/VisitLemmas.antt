@@ -1,10 +1,8 @@
 -- A run list is visited in one way.
 use Rattle.std.proofs.Common.{◌≡◌, ℕ, Bool, true, false, List, [], ◌∷◌, ◌++◌, Option, Some, None, refl, sym, ap, subst, ◌∙◌}
-use Rattle.version_rules.specs.declared.versions.Version.{Version}
 use Rattle.run_list.specs.Stored.{Stored}
 use Rattle.run_list.specs.declared.names.Named.{Named}
 use Rattle.run_list.specs.declared.names.Named.TheVariants.{Recipe, Role}
-use Rattle.run_list.specs.declared.names.RecipeName.{RecipeName}
 use Rattle.run_expansion.specs.declared.roles.RunLists.{RunLists}
 use Rattle.run_expansion.specs.Roles.{run_list_in}
 use Rattle.run_expansion.specs.Visits.{Event, run, missing, leave, is_among, Visit, no_item, recipe, met_again, not_there, enter, Visits}

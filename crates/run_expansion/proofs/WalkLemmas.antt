@@ -11,7 +11,7 @@ use Rattle.run_expansion.specs.declared.walk.Frame.{Frame}
 use Rattle.run_expansion.specs.declared.walk.Told.{Told}
 use Rattle.run_expansion.specs.Roles.{run_list_in}
 use Rattle.run_expansion.specs.Visits.{Event, run, missing, leave, is_among, Visit, no_item, recipe, met_again, not_there, enter, Visits}
-use Rattle.run_expansion.specs.Walk.{Level, State, event_of, level_of, with_event, with_level, entered, visited, ended, turned}
+use Rattle.run_expansion.specs.Walk.{Level, State, event_of, level_of, with_level, entered, visited, ended, turned}
 
 -- one more event was told
 pub told_more : (told after : List Told) (one : Told) → after ≡ told ++ one ∷ [] → map event_of after ≡ map event_of told ++ event_of one ∷ []

@@ -1,5 +1,5 @@
 -- The first occurrences among a list's elements.
-use Rattle.std.specs.Prelude.{ℕ, Bool, ◌&&◌, ◌==◌, not, List, [], ◌∷◌, Option, bytes_eq}
+use Rattle.std.specs.Prelude.{Bool, ◌&&◌, ◌==◌, not, List, [], ◌∷◌, bytes_eq}
 use Rattle.std.specs.List.{filter}
 use Rattle.std.specs.Option.{option_eq}
 use Rattle.version_rules.specs.declared.versions.Version.{Version}

@@ -1,8 +1,5 @@
 -- What a recipe that is to be run is told apart by, for the private clauses.
-use Rattle.std.specs.Prelude.{◌≡◌, ℕ, Bool, true, ◌&&◌, ◌==◌, nat_eq, List, ◌++◌, Option, Some, None, bytes_eq, refl}
-use Rattle.std.specs.Ordering.{on, eq_of_both}
-use Rattle.std.specs.Cmp.{IsEquivalence, on_equiv, and_equiv, nat_eq_equiv}
-use Rattle.std.specs.Cmp.Lexicographic.{nat_list_eq_equiv}
+use Rattle.std.specs.Prelude.{Bool, ◌&&◌, Option, bytes_eq}
 use Rattle.version_rules.specs.declared.versions.Version.{Version}
 use Rattle.run_list.specs.declared.names.RecipeName.{RecipeName}
 use Rattle.run_expansion.specs.declared.keys.RunKey.{RunKey}

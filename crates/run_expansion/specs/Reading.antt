@@ -1,5 +1,5 @@
 -- The role that a stored object is.
-use Rattle.std.specs.Prelude.{ℕ, Bool, cond, List, [], ◌∷◌, Option, Some, None, option_map, option_and_then, Result, Ok, Err, codes}
+use Rattle.std.specs.Prelude.{ℕ, cond, List, [], ◌∷◌, Option, Some, None, option_map, option_and_then, Result, Ok, Err, codes}
 use Rattle.doc_tree.specs.Doc.{Doc, null, boolean, whole, words, list, dict, docs_list, pairs_list}
 use Rattle.doc_tree.specs.Name.{is_name}
 use Rattle.doc_tree.specs.Part.{part_at}

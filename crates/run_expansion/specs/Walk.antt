@@ -1,7 +1,5 @@
 -- The walk that visits run lists with a stack of its own, for the private clauses.
-use Rattle.std.specs.Prelude.{ℕ, ◌+◌, Bool, true, false, cond, List, [], ◌∷◌, ◌++◌, map, length, Option, Some, None, option_map, if◌then◌else◌}
-use Rattle.std.specs.List.{sum_by}
-use Rattle.version_rules.specs.declared.versions.Version.{Version}
+use Rattle.std.specs.Prelude.{ℕ, ◌+◌, cond, List, [], ◌∷◌, ◌++◌, map, Option, Some, None, option_map}
 use Rattle.run_list.specs.Stored.{Stored}
 use Rattle.run_list.specs.declared.names.Named.{Named}
 use Rattle.run_list.specs.declared.names.Named.TheVariants.{Recipe, Role}
@@ -11,7 +9,7 @@ use Rattle.run_expansion.specs.declared.walk.Told.TheVariants as told
 use Rattle.run_expansion.specs.declared.walk.Frame.{Frame}
 use Rattle.run_expansion.specs.declared.walk.Walk.{Walk}
 use Rattle.run_expansion.specs.Keys.{run_of}
-use Rattle.run_expansion.specs.Roles.{list_for, run_list_in}
+use Rattle.run_expansion.specs.Roles.{run_list_in}
 use Rattle.run_expansion.specs.Visits.{Event, run, missing, leave, is_among}
 
 -- an event, by its parts

@@ -1,5 +1,5 @@
 -- What std's calls on text say in the words of `Pairs`.
-use Rattle.std.proofs.Common.{◌≡◌, ℕ, ◌-◌, true, false, List, length, drop, Option, Some, None, MatchOption, nat_eq, sym, subst, refl, arith, codes, option_copied}
+use Rattle.std.proofs.Common.{◌≡◌, ℕ, ◌-◌, true, false, List, length, Option, Some, None, MatchOption, sym, subst, refl, arith, codes, option_copied}
 use Rattle.std.specs.Borrow.{Bor}
 use Rattle.std.specs.Str.{IsCharBoundary}
 use Rattle.std.specs.Str.Pattern.{FindsTextPrefix, FindsTextSuffix, StripsPrefix, StripsSuffix}

@@ -1,8 +1,8 @@
 -- Items under NOTs, and what is smaller than a query.
-use Rattle.std.proofs.Common.{◌≡◌, ◌<◌, ◌≤◌, ◌+◌, ◌↔◌, not, ℕ, zero, suc, Bool, true, false, IsTrue, List, [], ◌∷◌, length, get_or, drop, refl, ap, sym, subst, inl, inr, ◌∙◌, arith}
+use Rattle.std.proofs.Common.{◌≡◌, ◌<◌, ◌≤◌, ◌↔◌, not, ℕ, zero, suc, Bool, true, false, IsTrue, List, [], ◌∷◌, length, get_or, drop, refl, ap, sym, subst, inl, inr, ◌∙◌, arith}
 use Rattle.query_text.specs.Items.{what_of, item_with}
-use Rattle.query_text.specs.Query.{Ors, Ands, then_ands, Item, negated, ands_of, ands_size, item_size, ors_of, ors_size, under}
-use Rattle.search_query.specs.Matching.{HasWanted, IsWanted, Meets, MeetsAll, MeetsItem, turned}
+use Rattle.query_text.specs.Query.{Ors, Ands, Item, negated, ands_of, ands_size, item_size, ors_of, ors_size, under}
+use Rattle.search_query.specs.Matching.{HasWanted, IsWanted, MeetsItem, turned}
 use Rattle.query_text.specs.declared.query.What.{What}
 use Rattle.query_text.specs.declared.term.Wanted.{Wanted}
 use Rattle.search_query.specs.declared.pair.Pair.{Pair}

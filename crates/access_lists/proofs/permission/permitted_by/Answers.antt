@@ -1,4 +1,4 @@
-use Rattle.std.proofs.Common.{◌≡◌, ◌∙◌, sym, subst, Any, IsTrue, List, ℕ}
+use Rattle.std.proofs.Common.{◌∙◌, sym, subst, Any, IsTrue, List, ℕ}
 use Rattle.access_lists.specs.Belonging.{Belongs}
 use Rattle.access_lists.proofs.PermittedLemmas.{by_operator, by_actor, by_groups}
 use Rattle.access_lists.proofs.permission.permitted_by.Goals as goal

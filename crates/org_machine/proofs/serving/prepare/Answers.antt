@@ -5,7 +5,7 @@ use Rattle.org_core.specs.Conditions.{MeetsConditions}
 use Rattle.org_core.specs.Moves.{after_moves}
 use Rattle.org_machine.specs.Marks.{mark_of}
 use Rattle.org_machine.proofs.KeepingLemmas.{after_keeps}
-use Rattle.org_machine.proofs.PreparedLemmas.{IsPrepared, is_prepared}
+use Rattle.org_machine.proofs.PreparedLemmas.{is_prepared}
 use Rattle.org_machine.proofs.serving.prepare.Goals as goal
 
 pub returns-clause-reply : goal.returns-clause-reply

@@ -1,8 +1,6 @@
 use Rattle.std.proofs.Common.{◌≡◌, List, ap, map, refl, sym, ◌∙◌}
 use Rattle.std.specs.List.{filter_map}
-use Rattle.run_expansion.specs.declared.walk.Told.{Told}
-use Rattle.run_expansion.specs.declared.walk.Run as code
-use Rattle.run_expansion.specs.Visits.{Run, Event}
+use Rattle.run_expansion.specs.Visits.{Run}
 use Rattle.run_expansion.specs.Walk.{event_of}
 use Rattle.run_expansion.specs.Keys.{run_of}
 use Rattle.run_expansion.specs.Firsts.{firsts, same_run, same_recipe}

@@ -1,4 +1,4 @@
-use Rattle.std.proofs.Common.{◌≡◌, ℕ, List, Bool, not, ◌&&◌, Option, Some, None, ap, refl, ◌∙◌, bytes_eq}
+use Rattle.std.proofs.Common.{◌≡◌, not, ◌&&◌, Option, Some, None, ap, refl, ◌∙◌, bytes_eq}
 use Rattle.std.specs.List.{list_any}
 use Rattle.std.specs.Option.{option_eq}
 use Rattle.indexmap.specs.IndexSet.{insert_key}

@@ -1,6 +1,5 @@
-use Rattle.std.proofs.Common.{ℕ, ◌<◌, List, [], ◌∷◌, map, option_map, refl, sym, subst}
-use Rattle.run_expansion.specs.Walk.{State, Level, state_of, level_of, event_of, with_level, turned}
-use Rattle.run_expansion.specs.declared.walk.Walk.{Walk}
+use Rattle.std.proofs.Common.{◌<◌, map, refl, sym, subst}
+use Rattle.run_expansion.specs.Walk.{State, state_of, level_of, event_of, turned}
 use Rattle.run_expansion.proofs.WalkLemmas.{Leads, first_leads, at_last, turned_leads, popped_state, none_left}
 use Rattle.run_expansion.proofs.WorkLemmas.{work, turned_work}
 use Rattle.run_expansion.proofs.walk.told_of.Goals as goal

@@ -1,7 +1,7 @@
-use Rattle.std.proofs.Common.{◌*◌, ◌+◌, ◌↔◌, IsTrue, drop}
+use Rattle.std.proofs.Common.{◌*◌, ◌+◌, ◌↔◌, drop}
 use Rattle.query_text.specs.Items.{what_of}
-use Rattle.query_text.specs.Query.{ands_of, ands_size, item_size, ors_of, ors_size, under}
-use Rattle.search_query.specs.Matching.{Meets, MeetsAll, MeetsItem}
+use Rattle.query_text.specs.Query.{ands_of, ands_size, item_size, ors_of, ors_size}
+use Rattle.search_query.specs.Matching.{Meets, MeetsAll}
 use Rattle.search_query.proofs.matching.+meets.Given as goal
 
 abbrev pub decreases-meets : goal.decreases-meets

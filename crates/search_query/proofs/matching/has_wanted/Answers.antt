@@ -1,4 +1,4 @@
-use Rattle.std.proofs.Common.{◌+◌, ◌↔◌, suc, List, drop, add-one, sym, subst, refl, ℕ}
+use Rattle.std.proofs.Common.{◌↔◌, drop, add-one, sym, subst, refl, ℕ}
 use Rattle.search_query.specs.Matching.{HasWanted}
 use Rattle.search_query.proofs.MeetLemmas.{has_at, has_next}
 use Rattle.search_query.proofs.matching.has_wanted.Goals as goal

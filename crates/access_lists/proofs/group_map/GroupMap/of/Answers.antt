@@ -1,4 +1,4 @@
-use Rattle.std.proofs.Common.{ap, ◌∙◌, sym}
+use Rattle.std.proofs.Common.{◌∙◌}
 use Rattle.std.specs.FinMap as finite
 use Rattle.access_lists.specs.Rooms.{groups_seen}
 use Rattle.access_lists.specs.Lists.{with_rows}

@@ -1,9 +1,7 @@
-use Rattle.std.proofs.Common.{◌≡◌, ◌≤◌, ◌∙◌, Some, None, OnOk, sym, ap, subst, refl, rules, arith, true, true≢false, is_some}
+use Rattle.std.proofs.Common.{◌≡◌, ◌≤◌, ◌∙◌, Some, None, OnOk, sym, ap, subst, rules, arith, true, true≢false, is_some}
 use Rattle.std.specs.FinMap as finite
-use Rattle.access_lists.specs.Changes.{changed, joined, left}
-use Rattle.access_lists.specs.Members.{GroupsByName, Rooms}
-use Rattle.access_lists.specs.Rooms.{KeptGroups, groups_seen, rooms_seen, room_of, OthersKeepRoom}
-use Rattle.access_lists.proofs.RoomLemmas.{members_found, room_found, groups_changed, groups_unchanged, groups_same, room_written, others_room, even_if}
+use Rattle.access_lists.specs.Rooms.{KeptGroups, rooms_seen, room_of}
+use Rattle.access_lists.proofs.RoomLemmas.{members_found, room_found, groups_same, room_written, others_room, even_if}
 use Rattle.access_lists.proofs.group_map.GroupMap.reserve_in.Goals as goal
 
 pub returns-clause-groups : goal.returns-clause-groups

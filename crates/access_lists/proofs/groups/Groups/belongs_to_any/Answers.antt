@@ -1,4 +1,4 @@
-use Rattle.std.proofs.Common.{◌≡◌, ◌∙◌, sym, true≢false, arith, IsTrue, true}
+use Rattle.std.proofs.Common.{◌∙◌, sym, true≢false, arith, true}
 use Rattle.access_lists.specs.Belonging.{Belongs}
 use Rattle.access_lists.proofs.PermittedLemmas.{some_found, none_more, none_found}
 use Rattle.access_lists.proofs.groups.Groups.belongs_to_any.Goals as goal

@@ -1,4 +1,4 @@
-use Rattle.std.proofs.Common.{ap, ◌∙◌, sym}
+use Rattle.std.proofs.Common.{◌∙◌}
 use Rattle.access_lists.specs.NameSets.{seen}
 use Rattle.access_lists.proofs.NameSetLemmas.{seen-more}
 use Rattle.access_lists.proofs.name_set.NameSet.of.Goals as goal

@@ -1,7 +1,6 @@
-use Rattle.std.proofs.Common.{◌≡◌, true, List, ℕ, Option, Some, ap, subst, sym, ◌∙◌, bytes_eq, Result, is_ok, Ok, Err, OnOk}
+use Rattle.std.proofs.Common.{true, ap, sym, ◌∙◌, bytes_eq, is_ok}
 use Rattle.indexmap.specs.IndexMap.{insert_entry}
-use Rattle.outside_disk.specs.Disk.{Replaces}
-use Rattle.outside_disk.specs.MemoryDisk.{HeldFiles, files_in}
+use Rattle.outside_disk.specs.MemoryDisk.{HeldFiles}
 use Rattle.outside_disk.proofs.EntriesLemmas.{replaced, when_ok}
 use Rattle.outside_disk.proofs.memory_disk.MemDiskDisk.write.Goals as goal
 
