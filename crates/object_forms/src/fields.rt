@@ -1,5 +1,5 @@
 //! The fields of an object, read one by one.
-ghost use Rattle.std.specs.Prelude.{map, Some, None};
+ghost use Rattle.std.specs.Prelude.{◌≤◌, length, map, Some, None};
 ghost use Rattle.doc_tree.specs.Doc.{pairs_of, words};
 ghost use Rattle.doc_tree.specs.Part.{pair_at};
 ghost use Rattle.doc_tree.specs.Tree.{doc_of};
@@ -27,6 +27,20 @@ pub(crate) fn fields_from(
         put_field(alloc, &mut made, rule, body)?;
     }
     Ok(made)
+}
+
+/// How many fields these rules store: of those that a body hasn't, all but the ones that are then left out.
+pub(crate) fn count_stored(rules: &[Rule<'_>], body: &Fields) -> usize
+    ensures { result ≤ length rules.now }
+{
+    let mut count = 0;
+    for rule in rules {
+        let left_out = matches!(rule.absent, Absent::Nothing) && body.get(rule.name).is_none();
+        if !left_out {
+            count += 1;
+        }
+    }
+    count
 }
 
 /// Puts a field beside what is made.

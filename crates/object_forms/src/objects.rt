@@ -10,7 +10,7 @@ ghost use Rattle.object_forms.specs.Outcomes.{Gives};
 ghost use Rattle.object_forms.specs.Rules.{form_of, row_of};
 
 use crate::fault::{FormFault, bad_field};
-use crate::fields::{fields_from, put_field};
+use crate::fields::{count_stored, fields_from, put_field};
 use crate::forms::{is_dict, is_exactly};
 use crate::groups::read_group;
 use crate::rules::{Absent, Form, Rule};
@@ -67,7 +67,7 @@ fn object_in(
     let mut made = beside(alloc, kind, body)?;
     put_field(alloc, &mut made, &name_rule(kind, name), body)?;
     let made = fields_from(alloc, made, table_of(kind), body)?;
-    Ok(Tree::Dict(made))
+    Ok(Tree::Dict(without_room(alloc, kind, body, made)?))
 }
 
 fn is_item(kind: Kind) -> bool
@@ -130,7 +130,7 @@ fn is_no_id(kind: Kind, name: Option<&Name>) -> bool
     }
 }
 
-/// What an object has beside its fields.
+/// What an object has beside its fields, with room for just these.
 #[tactic(auto, using(doc_tree::proofs::Docs::back))]
 fn beside(alloc: Global, kind: Kind, body: &Fields) -> Result<Fields, NoMemory>
     ensures { IfOk result (λ made. made ≡ spec.beside kind (pairs_of body.now)) }
@@ -138,7 +138,18 @@ fn beside(alloc: Global, kind: Kind, body: &Fields) -> Result<Fields, NoMemory>
     if is_item(kind) {
         body.copy(alloc)
     } else {
-        Ok(Fields::new(alloc))
+        Fields::with_capacity(alloc, 1 + count_stored(table_of(kind), body))
+    }
+}
+
+/// What was made, with no spare room: only an item whose body has no id took more room for it.
+fn without_room(alloc: Global, kind: Kind, body: &Fields, made: Fields) -> Result<Fields, NoMemory>
+    ensures { IfOk result (λ kept. kept ≡ made) }
+{
+    if is_item(kind) && body.get("id").is_none() {
+        made.copy(alloc)
+    } else {
+        Ok(made)
     }
 }
 

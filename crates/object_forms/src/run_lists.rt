@@ -23,15 +23,14 @@ fn stored_list(alloc: Global, trees: &Trees) -> Result<Option<Tree>, NoMemory>
 {
     match stored_items(alloc, trees)? {
         None => Ok(None),
-        // The copy has no spare room.
-        Some(items) => Ok(Some(Tree::List(items.copy(alloc)?))),
+        Some(items) => Ok(Some(Tree::List(items))),
     }
 }
 
 fn stored_items(alloc: Global, trees: &Trees) -> Result<Option<Trees>, NoMemory>
     ensures { IfOk result (λ found. found ≡ spec.stored_items (docs_of trees.now)) }
 {
-    let mut items = Trees::new(alloc);
+    let mut items = Trees::with_capacity(alloc, trees.len())?;
     for tree in trees.as_slice() {
         match stored_item(alloc, tree)? {
             None => return Ok(None),
@@ -75,15 +74,14 @@ fn stored_dict(alloc: Global, fields: &Fields) -> Result<Option<Tree>, NoMemory>
 {
     match stored_run_lists(alloc, fields)? {
         None => Ok(None),
-        // The copy has no spare room.
-        Some(made) => Ok(Some(Tree::Dict(made.copy(alloc)?))),
+        Some(made) => Ok(Some(Tree::Dict(made))),
     }
 }
 
 fn stored_run_lists(alloc: Global, fields: &Fields) -> Result<Option<Fields>, NoMemory>
     ensures { IfOk result (λ found. found ≡ spec.stored_run_lists (pairs_of fields.now)) }
 {
-    let mut made = Fields::new(alloc);
+    let mut made = Fields::with_capacity(alloc, fields.len())?;
     for field in fields.as_slice() {
         match named_run_list(alloc, &field.key, &field.tree)? {
             None => return Ok(None),
