@@ -159,7 +159,7 @@ fn creation(alloc: Global) -> Result<Moves, NoMemory>
 fn default_environment(alloc: Global) -> Result<Tree, NoMemory>
     ensures { IfOk result (λ tree. doc_of tree ≡ spec.default_environment) }
 {
-    let mut fields = Fields::new(alloc);
+    let mut fields = Fields::with_capacity(alloc, 7)?;
     put_text(alloc, &mut fields, "name", "_default")?;
     put_text(alloc, &mut fields, "chef_type", "environment")?;
     put_text(alloc, &mut fields, "json_class", "Chef::Environment")?;
