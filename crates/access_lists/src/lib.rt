@@ -9,6 +9,8 @@ mod groups;
 mod laws;
 mod lists;
 mod member_kind;
+#[cfg(test)]
+mod member_tests;
 mod name_set;
 mod perm;
 mod permission;
