@@ -327,8 +327,8 @@ const STRANGERS: &str =
 {"read":{"actors":["pivotal"],"groups":["pivotal"]}} -> group pivotal
 "#;
 
-fn name_at(texts: &TextSet, place: usize) -> &str {
-    match texts.as_slice().get(place) {
+fn name_at(texts: &TextSet, position: usize) -> &str {
+    match texts.as_slice().get(position) {
         Some(text) => text.as_str(),
         None => "",
     }
@@ -336,8 +336,8 @@ fn name_at(texts: &TextSet, place: usize) -> &str {
 
 fn add_stranger(told: &mut String, groups: &Groups, entry: &Entry) -> Result<(), NoMemory> {
     let (kind, name) = match groups.stranger(entry) {
-        Some(Stranger::Actor(place)) => (" actor ", name_at(&entry.actors, place)),
-        Some(Stranger::Group(place)) => (" group ", name_at(&entry.groups, place)),
+        Some(Stranger::Actor(position)) => (" actor ", name_at(&entry.actors, position)),
+        Some(Stranger::Group(position)) => (" group ", name_at(&entry.groups, position)),
         None => (" none", ""),
     };
     told.push_str(kind)?;
@@ -393,8 +393,8 @@ fn the_first_stranger_is_told(rt: HostRuntime) -> Result<(), Fail> {
 fn body_of_many(alloc: Global, front: &str, back: &str) -> Result<String, NoMemory> {
     let mut body = String::from_str(alloc, front)?;
     body.push_str(r#""read":{"groups":[],"actors":["#)?;
-    for place in 0..1000usize {
-        let number = 1000usize.saturating_sub(place);
+    for position in 0..1000usize {
+        let number = 1000usize.saturating_sub(position);
         body.push_str(format!(in alloc; "\"m{number}\",")?.as_str())?;
     }
     body.push_str("\"m1\"]}")?;
