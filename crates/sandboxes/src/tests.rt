@@ -120,28 +120,33 @@ fn upload(alloc: Global, files: &mut Files, org: &Text, text: &str) -> Result<St
     }
 }
 
-// What a sandbox misses; one that misses nothing is committed.
-fn commit_unless_missing(
-    alloc: Global,
-    files: &mut Files,
-    org: &Text,
-    id: &Checksum,
-    missing: Sums,
-) -> Result<String, NoMemory> {
-    if missing.is_empty() {
-        files.commit(org, id);
-        return Ok(String::from_str(alloc, "committed")?);
-    }
+fn missing_told(alloc: Global, missing: Sums) -> Result<String, NoMemory> {
     let missing = shown(alloc, &missing)?;
     Ok(format!(in alloc; "missing {missing}")?)
 }
 
+// Commits a sandbox that misses nothing.
+fn commit_id(
+    alloc: Global,
+    files: &mut Files,
+    org: &Text,
+    id: &Checksum,
+) -> Result<String, NoMemory> {
+    match files.missing(alloc, org, id) {
+        Err(fault) => Ok(fault.to_string(alloc)?),
+        Ok(missing) => {
+            if missing.is_empty() {
+                files.commit(org, id);
+                return Ok(String::from_str(alloc, "committed")?);
+            }
+            missing_told(alloc, missing)
+        }
+    }
+}
+
 fn commit(alloc: Global, files: &mut Files, org: &Text, text: &str) -> Result<String, NoMemory> {
     let id = checksum(alloc, text)?;
-    match files.missing(alloc, org, &id) {
-        Ok(missing) => commit_unless_missing(alloc, files, org, &id, missing),
-        Err(fault) => Ok(fault.to_string(alloc)?),
-    }
+    commit_id(alloc, files, org, &id)
 }
 
 fn read(alloc: Global, files: &Files, org: &Text, text: &str) -> Result<String, NoMemory> {
@@ -193,12 +198,22 @@ fn done(
     }
 }
 
+fn done_in(
+    alloc: Global,
+    files: &mut Files,
+    org: &str,
+    deed: &str,
+    text: &str,
+) -> Result<String, NoMemory> {
+    let org = Text::from_str(alloc, org)?;
+    done(alloc, files, &org, deed, text)
+}
+
 // What is told when that is done which the words of a line say.
 fn told(alloc: Global, files: &mut Files, words: &str) -> Result<String, NoMemory> {
     let (org, rest) = words.split_once(' ').unwrap_or((words, ""));
     let (deed, text) = rest.split_once(' ').unwrap_or((rest, ""));
-    let org = Text::from_str(alloc, org)?;
-    done(alloc, files, &org, deed, text)
+    done_in(alloc, files, org, deed, text)
 }
 
 // A line, as the files tell it.
