@@ -87,10 +87,9 @@ fn put_group(
     groups: &mut Groups,
     row: &GroupRow,
 ) -> Result<(), NoMemory> {
-    let group = Group::of(alloc, hasher, row)?;
     let name = row.name.as_text().copy(alloc)?;
     groups.reserve(1)?;
-    groups.put_group(name, group);
+    groups.put_group(name, Group::of(alloc, hasher, row)?);
     Ok(())
 }
 
