@@ -1,7 +1,6 @@
 -- What a run promises, put together of what its parts do.
 use Rattle.std.proofs.Common.{◌≡◌, ◌⊎◌, ℕ, List, Option, Some, inl, inr, refl, sym, ap, ◌∙◌, subst}
 use Rattle.std.specs.Option.{option_map}
-use Rattle.std.specs.declared.process.ExitCode.{ExitCode}
 use Rattle.outside_core.specs.Failed.{Rose}
 use Rattle.outside_disk.specs.Disk.{Files, IsFile}
 use Rattle.chefsite.specs.declared.statuses.Status.{Status}
@@ -13,7 +12,6 @@ use Rattle.chefsite.specs.Endings.{Says, HasStatusCause, TellsRest, IsComplete}
 use Rattle.chefsite.specs.Explaining.{HasNoSources, IsExplainedBy, SaysOfFile, HasFileCause}
 use Rattle.chefsite.specs.Notes.{IsNoted}
 use Rattle.chefsite.specs.Theorems.{Course, IsUntouched, Answered, Explained}
-use Rattle.chefsite.specs.Exits.{EndsNoted, EndsAsRan}
 
 -- a run of `answer` that did what its status says
 pub answered_so : (status : Status) (input output : Course (List ℕ)) (disk : Course Files)
@@ -102,12 +100,6 @@ explained_so status file input output disk says cause untouched kept =
 reads_as : (read : Option Command) (given : List (List ℕ)) (command : Command) → option_map told read ≡ command_of given → read ≡ Some command
     → command_of given ≡ Some (told command)
 reads_as read given command is same = sym is ∙ ap (option_map told) same
-
--- the number is that of the status which was noted
-pub noted_end : {N : Type 0} (exit : ExitCode) (words : List (List ℕ)) (input output notes : Course (List ℕ)) (disk : Course Files) (before after : N)
-    → EndsAsRan exit words input output notes disk before after → EndsNoted exit notes
-noted_end exit words input output notes disk before after ended =
-    record { status = ended.status; file = _; number = ended.number; noted = ended.ran.noted }
 
 -- what was noted with a file is noted with one of the same name
 pub noted_of : (status : Status) (file named : List ℕ) (held now : Option (List ℕ)) (before after : ℕ) → file ≡ named
