@@ -3,8 +3,8 @@ use Rattle.search_query.specs.Walk.{FitsBehind}
 use Rattle.search_query.proofs.walk.fits_behind.Given as goal
 
 -- what is left decides
-abbrev pub invariant-places : goal.invariant-places
-invariant-places l = FitsBehind l.left l.here ↔ FitsBehind l.signs l.value
+abbrev pub invariant-positions : goal.invariant-positions
+invariant-positions l = FitsBehind l.left l.here ↔ FitsBehind l.signs l.value
 
-abbrev pub decreases-places : goal.decreases-places
-decreases-places l = length l.left + length l.here
+abbrev pub decreases-positions : goal.decreases-positions
+decreases-positions l = length l.left + length l.here
