@@ -171,7 +171,7 @@ fn only_whole_objects_are_roles(rt: HostRuntime) -> Result<(), Fail> {
 }
 
 fn link(alloc: Global, k: u32, roles: &mut Roles) -> Result<(), Fail> {
-    let next = (k + 1) % 10_000;
+    let next = k.saturating_add(1) % 10_000;
     let run_list = one_item(alloc, format!(in alloc; "role[r{next}]")?)?;
     let own = format!(in alloc; "r{k}")?;
     let own = name(alloc, own.as_str())?;
