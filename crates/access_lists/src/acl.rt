@@ -1,5 +1,5 @@
 //! Access lists.
-ghost use Rattle.std.specs.Prelude.{◌≡◌, IfOk};
+ghost use Rattle.std.specs.Prelude.{◌≡◌, IfOk, OnOk};
 ghost use Rattle.access_lists.specs.Acls.{entry_of, each_entry, with_actor, without_actor, without_group};
 
 use crate::perm::Perm;
@@ -27,6 +27,14 @@ pub struct Acl {
 }
 
 impl Entry {
+    /// Neither actors nor groups. It takes no memory.
+    fn none(alloc: Global) -> Entry {
+        Entry {
+            actors: TextSet::new(alloc),
+            groups: TextSet::new(alloc),
+        }
+    }
+
     /// An equal entry with memory of its own.
     pub fn copy(&self, alloc: Global) -> Result<Entry, NoMemory>
         ensures { IfOk result (λ entry. entry ≡ self.now) }
@@ -61,17 +69,24 @@ impl Acl {
         }
     }
 
+    /// An access list in which nobody has a permission. It takes no memory.
+    fn none(alloc: Global) -> Acl {
+        Acl {
+            create: Entry::none(alloc),
+            read: Entry::none(alloc),
+            update: Entry::none(alloc),
+            delete: Entry::none(alloc),
+            grant: Entry::none(alloc),
+        }
+    }
+
     /// An equal access list with memory of its own.
     pub fn copy(&self, alloc: Global) -> Result<Acl, NoMemory>
         ensures { IfOk result (λ acl. acl ≡ self.now) }
     {
-        Ok(Acl {
-            create: self.create.copy(alloc)?,
-            read: self.read.copy(alloc)?,
-            update: self.update.copy(alloc)?,
-            delete: self.delete.copy(alloc)?,
-            grant: self.grant.copy(alloc)?,
-        })
+        let mut acl = Acl::none(alloc);
+        copy_entries(alloc, self, &mut acl)?;
+        Ok(acl)
     }
 
     /// This access list with one more actor in each entry, as who creates an object is in its list.
@@ -108,4 +123,16 @@ impl Acl {
         self.delete.groups.take_out(name);
         self.grant.groups.take_out(name);
     }
+}
+
+// Copies each entry to the other list.
+fn copy_entries(alloc: Global, from: &Acl, to: &mut Acl) -> Result<(), NoMemory>
+    ensures { OnOk result (to.new ≡ from.now) }
+{
+    to.create = from.create.copy(alloc)?;
+    to.read = from.read.copy(alloc)?;
+    to.update = from.update.copy(alloc)?;
+    to.delete = from.delete.copy(alloc)?;
+    to.grant = from.grant.copy(alloc)?;
+    Ok(())
 }

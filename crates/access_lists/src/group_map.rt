@@ -158,7 +158,7 @@ fn put(items: &mut Hashed, name: Text, group: Group)
     ensures rooms { rooms_seen items.new.entries ≡ finite.insert (rooms_seen items.old.entries) name group.spare }
     ensures spare { spare items.old ≤ spare items.new + 1 }
 {
-    let _ = items.insert(name, group);
+    drop(items.insert(name, group));
 }
 
 fn take(items: &mut Hashed, name: &Text)

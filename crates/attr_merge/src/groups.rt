@@ -91,7 +91,7 @@ fn add<'a>(
             parts.push(part)?;
         }
         None => {
-            let mut parts = Vec::new(alloc);
+            let mut parts = Vec::with_capacity(alloc, 1)?;
             parts.push(part)?;
             groups.insert(key.copy(alloc)?, parts)?;
         }

@@ -33,7 +33,7 @@ impl Node {
     pub(crate) fn leaf(alloc: Global, tree: Tree, origin: Vec<usize>) -> Result<Node, NoMemory>
         ensures { IfOk result (λ node. (node.tree ≡ tree) × (leaves_of node.leaves.items ≡ ([], origin.items) ∷ [])) }
     {
-        let mut leaves = Vec::new(alloc);
+        let mut leaves = Vec::with_capacity(alloc, 1)?;
         leaves.push(Leaf {
             path: Vec::new(alloc),
             origin,

@@ -70,7 +70,7 @@ impl Lists {
         ensures spare { self.old.spare ≤ self.new.spare + 1 }
     {
         let before = self.items.swap_remove(&key);
-        let _ = self.items.insert(key, acl);
+        drop(self.items.insert(key, acl));
         before
     }
 

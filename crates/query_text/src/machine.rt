@@ -1,5 +1,6 @@
 //! How a query is read byte by byte, without recursion.
-ghost use Rattle.query_text.specs.Machine.{after_step, at, close_step, due_step, ending, gap_step, goes_on, name_step, naming_step, not_step, opened, start, step, term_step};
+ghost use Rattle.query_text.specs.Machine.{after_step, at, close_step, due_step, ending, ending_at, gap_step, goes_on, name_step, naming_step, not_step, opened, start, step, term_step, whole};
+ghost use Rattle.query_text.specs.declared.frames.Mode.TheVariants.{Within};
 ghost use Rattle.query_text.specs.Parts.{ended};
 ghost use Rattle.std.specs.Prelude.{◌≡◌, IfOk, Some, None, if◌then◌else◌};
 
@@ -34,28 +35,24 @@ pub(crate) fn step(alloc: Global, config: Config, byte: u8) -> Result<Option<Con
         Mode::Naming(name) => naming_step(alloc, name, frame, below, byte),
         Mode::Within(part) => term_step(alloc, part, frame, below, byte),
         Mode::After => after_step(frame, below, byte),
-        Mode::AndN => Ok(only_if(byte == b'N', Mode::AndD, frame, below)),
-        Mode::AndD => Ok(only_if(byte == b'D', Mode::AndEnd, frame, below)),
+        Mode::AndN => Ok((byte == b'N').then_some(at(Mode::AndD, frame, below))),
+        Mode::AndD => Ok((byte == b'D').then_some(at(Mode::AndEnd, frame, below))),
         Mode::AndEnd => gap_step(alloc, frame.ready(), below, byte),
-        Mode::OrR => Ok(only_if(byte == b'R', Mode::OrEnd, frame, below)),
+        Mode::OrR => Ok((byte == b'R').then_some(at(Mode::OrEnd, frame, below))),
         Mode::OrEnd => gap_step(alloc, frame.next_or(alloc)?, below, byte),
     }
 }
 
-fn only_if(test: bool, mode: Mode, frame: Frame, below: Below) -> Option<Config>
-    ensures { result ≡ (if test then Some (at mode frame below) else None) }
+fn at(mode: Mode, frame: Frame, below: Below) -> Config
+    ensures { result ≡ at mode frame below }
 {
-    if test {
-        Some(Config { mode, frame, below })
-    } else {
-        None
-    }
+    Config { mode, frame, below }
 }
 
 fn going(mode: Mode, frame: Frame, below: Below) -> Option<Config>
     ensures { result ≡ Some (at mode frame below) }
 {
-    Some(Config { mode, frame, below })
+    Some(at(mode, frame, below))
 }
 
 fn due_step(alloc: Global, frame: Frame, below: Below, byte: u8) -> Result<Option<Config>, NoMemory>
@@ -216,15 +213,35 @@ pub(crate) fn ending(config: Config) -> Result<Option<Query>, NoMemory>
     ensures { IfOk result (λ query. query ≡ ending config) }
 {
     let Config { mode, frame, below } = config;
-    if !below.is_empty() {
-        return Ok(None);
+    match below.is_empty().then_some((mode, frame)) {
+        Some((mode, frame)) => ending_at(mode, frame),
+        None => Ok(None),
     }
+}
+
+// The query, where no group around it is open.
+fn ending_at(mode: Mode, frame: Frame) -> Result<Option<Query>, NoMemory>
+    ensures { IfOk result (λ query. query ≡ ending_at mode frame) }
+{
     match mode {
-        Mode::After => Ok(Some(frame.whole()?)),
-        Mode::Within(part) => match into_term(part) {
-            Ok(term) => Ok(Some(frame.pushed(What::Term(term))?.whole()?)),
-            Err(_) => Ok(None),
-        },
+        Mode::After => whole_of(frame),
+        Mode::Within(part) => ended_by(part, frame),
         _ => Ok(None),
+    }
+}
+
+fn whole_of(frame: Frame) -> Result<Option<Query>, NoMemory>
+    ensures { IfOk result (λ query. query ≡ Some (whole frame)) }
+{
+    Ok(Some(frame.whole()?))
+}
+
+// The query whose last term is this part, where it may end here.
+fn ended_by(part: Part, frame: Frame) -> Result<Option<Query>, NoMemory>
+    ensures { IfOk result (λ query. query ≡ ending_at (Within part) frame) }
+{
+    match into_term(part).ok() {
+        Some(term) => whole_of(frame.pushed(What::Term(term))?),
+        None => Ok(None),
     }
 }

@@ -139,8 +139,8 @@ pub(crate) fn part_step(alloc: Global, here: Part, byte: u8) -> Result<Option<Pa
     ensures { IfOk result (λ next. next ≡ part_step here byte) }
 {
     match here {
-        Part::EveryColon => Ok(only_if(byte == b':', Part::EveryStar)),
-        Part::EveryStar => Ok(only_if(byte == b'*', Part::Whole(Term::Every))),
+        Part::EveryColon => Ok((byte == b':').then_some(Part::EveryStar)),
+        Part::EveryStar => Ok((byte == b'*').then_some(Part::Whole(Term::Every))),
         Part::Field(field) => field_step(field, byte),
         Part::FieldEscape(field) => Ok(Some(Part::Field(with_byte(field, byte)?))),
         Part::ValueDue(field) => value_step(alloc, field, byte),
@@ -152,25 +152,19 @@ pub(crate) fn part_step(alloc: Global, here: Part, byte: u8) -> Result<Option<Pa
         }
         Part::Low(field, with_ends, bound) => low_step(alloc, field, with_ends, bound, byte),
         Part::ToT(field, with_ends, low) => {
-            Ok(only_if(byte == b'T', Part::ToO(field, with_ends, low)))
+            Ok((byte == b'T').then_some(Part::ToO(field, with_ends, low)))
         }
         Part::ToO(field, with_ends, low) => {
-            Ok(only_if(byte == b'O', Part::ToEnd(field, with_ends, low)))
+            Ok((byte == b'O').then_some(Part::ToEnd(field, with_ends, low)))
         }
         Part::ToEnd(field, with_ends, low) => {
-            Ok(only_if(byte == b' ', Part::High(field, with_ends, low, Bound::Due)))
+            Ok((byte == b' ').then_some(Part::High(field, with_ends, low, Bound::Due)))
         }
         Part::High(field, with_ends, low, bound) => {
             high_step(alloc, field, with_ends, low, bound, byte)
         }
         Part::Whole(_) => Ok(None),
     }
-}
-
-fn only_if(test: bool, next: Part) -> Option<Part>
-    ensures { result ≡ (if test then Some next else None) }
-{
-    if test { Some(next) } else { None }
 }
 
 fn field_step(field: Listed<u8>, byte: u8) -> Result<Option<Part>, NoMemory>

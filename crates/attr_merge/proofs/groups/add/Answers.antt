@@ -25,4 +25,4 @@ returns-in_ok-insert-in-None c = λ q.
     gathered-added q c.args.key.now c.args.groups.now.entries c.insert.new.self.entries None now (piece_of c.args.part)
     (c.in_ok-insert-in-None.ensures.updates.0 q ∙ (λ i. cond (is_eq (slice_cmp nat_cmp (copied i) q)) (Some now) (lookup (is_at (slice_cmp nat_cmp q)) (same i).entries)))
     (sym c.get_mut.ensures.value ∙ ap option_copied_mut c.in-None.is)
-    (ap pieces_of (c.in_ok-push-in-None.ensures.items ∙ ap (λ (parts : List Part). parts ++ c.args.part ∷ []) c.new-parts.ensures.items))
+    (ap pieces_of (c.in_ok-push-in-None.ensures.items ∙ ap (λ (parts : List Part). parts ++ c.args.part ∷ []) c.in_ok-parts-in-None.ensures.items))
