@@ -64,19 +64,12 @@ fn off_the_table(place: Place) -> Aim
     }
 }
 
-// The place of `/organizations/ORG/COLLECTION/NAME` and at most two further segments, of which the
-// path may have only the first.
 fn place_at(alloc: Global, path: Path, segments: Texts) -> Place
     ensures { result ≡ spec.place_at path segments }
 {
     let mut segments = segments.into_vec().into_iter();
-    let _organisations = next(alloc, &mut segments);
-    let org = next(alloc, &mut segments);
-    let collection = next(alloc, &mut segments);
-    let name = next(alloc, &mut segments);
-    let fifth = next(alloc, &mut segments);
-    let sixth = next(alloc, &mut segments);
-    place_by(path, org, collection, name, fifth, sixth)
+    let org = following(alloc, &mut segments);
+    place_by(alloc, path, org, &mut segments)
 }
 
 // The next segment, or an empty text behind the last.
@@ -90,12 +83,19 @@ fn next(alloc: Global, segments: &mut IntoIter<Text>) -> Text
     }
 }
 
-// The place of a path of the table, by the segments in which its names can stand.
-fn place_by(path: Path, org: Text, collection: Text, name: Text, fifth: Text, sixth: Text) -> Place
-    ensures { (segments : List (List ℕ)) → org ≡ nth_segment 1 segments
-        → collection ≡ nth_segment 2 segments → name ≡ nth_segment 3 segments
-        → fifth ≡ nth_segment 4 segments → sixth ≡ nth_segment 5 segments
-        → result ≡ spec.place_at path segments }
+// The segment behind the next, of which the one is a word of the path and the other a name.
+fn following(alloc: Global, segments: &mut IntoIter<Text>) -> Text
+    ensures second { result ≡ nth_segment 1 (into_iter_items segments.old) }
+    ensures rest { into_iter_items segments.new ≡ spec.rest_of (spec.rest_of (into_iter_items segments.old)) }
+{
+    drop(next(alloc, segments));
+    next(alloc, segments)
+}
+
+// The place of a path of the table in this organisation, by the segments behind its name.
+fn place_by(alloc: Global, path: Path, org: Text, segments: &mut IntoIter<Text>) -> Place
+    ensures { (all : List (List ℕ)) → org ≡ nth_segment 1 all → into_iter_items segments.old ≡ spec.rest_of (spec.rest_of all)
+        → result ≡ spec.place_at path all }
 {
     match path {
         Path::Organisations => Place::Organisations,
@@ -105,39 +105,60 @@ fn place_by(path: Path, org: Text, collection: Text, name: Text, fifth: Text, si
         Path::Environments => objects(org, Collection::Environments, ObjectsRoute::All),
         Path::Clients => objects(org, Collection::Clients, ObjectsRoute::All),
         Path::Groups => access(org, AccessRoute::Groups),
-        Path::Node => objects(org, Collection::Nodes, ObjectsRoute::One(name)),
-        Path::Role => objects(org, Collection::Roles, ObjectsRoute::One(name)),
-        Path::Environment => objects(org, Collection::Environments, ObjectsRoute::One(name)),
-        Path::Client => objects(org, Collection::Clients, ObjectsRoute::One(name)),
-        Path::Group => access(org, AccessRoute::Group(name)),
+        Path::Node => objects(org, Collection::Nodes, one(alloc, segments)),
+        Path::Role => objects(org, Collection::Roles, one(alloc, segments)),
+        Path::Environment => objects(org, Collection::Environments, one(alloc, segments)),
+        Path::Client => objects(org, Collection::Clients, one(alloc, segments)),
+        Path::Group => access(org, AccessRoute::Group(following(alloc, segments))),
         Path::Users => access(org, AccessRoute::Users),
-        Path::User => access(org, AccessRoute::User(name)),
+        Path::User => access(org, AccessRoute::User(following(alloc, segments))),
         Path::Containers => access(org, AccessRoute::Containers),
-        Path::Container => access(org, AccessRoute::Container(name)),
-        Path::AccessList => access(org, AccessRoute::List(collection, name)),
-        Path::AccessEntry => access(org, AccessRoute::Entry(collection, name, sixth)),
+        Path::Container => access(org, AccessRoute::Container(following(alloc, segments))),
+        Path::AccessList => access(org, list(alloc, segments)),
+        Path::AccessEntry => access(org, entry(alloc, segments)),
         Path::DataBags => of(org, Route::Data(DataRoute::Bags)),
-        Path::DataBag => of(org, Route::Data(DataRoute::Bag(name))),
-        Path::DataBagItem => of(org, Route::Data(DataRoute::Item(name, fifth))),
-        Path::Sandboxes => of(org, Route::Cookbooks(CookbookRoute::Sandboxes)),
-        Path::Sandbox => of(org, Route::Cookbooks(CookbookRoute::Sandbox(name))),
-        Path::File => of(org, Route::Cookbooks(CookbookRoute::File(name))),
-        Path::Cookbooks => of(org, Route::Cookbooks(CookbookRoute::Cookbooks)),
-        Path::Cookbook => of(org, Route::Cookbooks(CookbookRoute::Cookbook(name))),
-        Path::CookbookVersion => of(org, Route::Cookbooks(CookbookRoute::Version(name, fifth))),
-        Path::Universe => of(org, Route::Cookbooks(CookbookRoute::Universe)),
-        Path::Artifacts => of(org, Route::Cookbooks(CookbookRoute::Artifacts)),
-        Path::Artifact => of(org, Route::Cookbooks(CookbookRoute::Artifact(name, fifth))),
-        Path::SolvedVersions => of(org, Route::Cookbooks(CookbookRoute::SolvedVersions(name))),
-        Path::Policies => of(org, Route::Policies(PolicyRoute::Policies)),
-        Path::Policy => of(org, Route::Policies(PolicyRoute::Policy(name))),
-        Path::Revisions => of(org, Route::Policies(PolicyRoute::Revisions(name))),
-        Path::Revision => of(org, Route::Policies(PolicyRoute::Revision(name, sixth))),
-        Path::PolicyGroups => of(org, Route::Policies(PolicyRoute::Groups)),
-        Path::PolicyGroup => of(org, Route::Policies(PolicyRoute::Group(name))),
-        Path::Assignment => of(org, Route::Policies(PolicyRoute::Assignment(name, sixth))),
+        Path::DataBag => of(org, Route::Data(DataRoute::Bag(following(alloc, segments)))),
+        Path::DataBagItem => of(
+            org,
+            Route::Data(DataRoute::Item(following(alloc, segments), next(alloc, segments))),
+        ),
+        Path::Sandboxes => cookbooks(org, CookbookRoute::Sandboxes),
+        Path::Sandbox => cookbooks(org, CookbookRoute::Sandbox(following(alloc, segments))),
+        Path::File => cookbooks(org, CookbookRoute::File(following(alloc, segments))),
+        Path::Cookbooks => cookbooks(org, CookbookRoute::Cookbooks),
+        Path::Cookbook => cookbooks(org, CookbookRoute::Cookbook(following(alloc, segments))),
+        Path::CookbookVersion => cookbooks(
+            org,
+            CookbookRoute::Version(following(alloc, segments), next(alloc, segments)),
+        ),
+        Path::Universe => cookbooks(org, CookbookRoute::Universe),
+        Path::Artifacts => cookbooks(org, CookbookRoute::Artifacts),
+        Path::Artifact => cookbooks(
+            org,
+            CookbookRoute::Artifact(following(alloc, segments), next(alloc, segments)),
+        ),
+        Path::SolvedVersions => cookbooks(
+            org,
+            CookbookRoute::SolvedVersions(following(alloc, segments)),
+        ),
+        Path::Policies => policies(org, PolicyRoute::Policies),
+        Path::Policy => policies(org, PolicyRoute::Policy(following(alloc, segments))),
+        Path::Revisions => policies(org, PolicyRoute::Revisions(following(alloc, segments))),
+        Path::Revision => policies(
+            org,
+            PolicyRoute::Revision(following(alloc, segments), following(alloc, segments)),
+        ),
+        Path::PolicyGroups => policies(org, PolicyRoute::Groups),
+        Path::PolicyGroup => policies(org, PolicyRoute::Group(following(alloc, segments))),
+        Path::Assignment => policies(
+            org,
+            PolicyRoute::Assignment(following(alloc, segments), following(alloc, segments)),
+        ),
         Path::SearchIndexes => of(org, Route::Search(SearchRoute::Indexes)),
-        Path::Search => of(org, Route::Search(SearchRoute::Index(name))),
+        Path::Search => of(
+            org,
+            Route::Search(SearchRoute::Index(following(alloc, segments))),
+        ),
     }
 }
 
@@ -157,6 +178,42 @@ fn access(org: Text, route: AccessRoute) -> Place
     ensures { result ≡ Place.Of org (Route.Access route) }
 {
     of(org, Route::Access(route))
+}
+
+fn cookbooks(org: Text, route: CookbookRoute) -> Place
+    ensures { result ≡ Place.Of org (Route.Cookbooks route) }
+{
+    of(org, Route::Cookbooks(route))
+}
+
+fn policies(org: Text, route: PolicyRoute) -> Place
+    ensures { result ≡ Place.Of org (Route.Policies route) }
+{
+    of(org, Route::Policies(route))
+}
+
+// An object of a collection, by its name.
+fn one(alloc: Global, segments: &mut IntoIter<Text>) -> ObjectsRoute
+    ensures { result ≡ ObjectsRoute.One (nth_segment 1 (into_iter_items segments.old)) }
+{
+    ObjectsRoute::One(following(alloc, segments))
+}
+
+// The access list of an object.
+fn list(alloc: Global, segments: &mut IntoIter<Text>) -> AccessRoute
+    ensures { result ≡ AccessRoute.List (nth_segment 0 (into_iter_items segments.old)) (nth_segment 1 (into_iter_items segments.old)) }
+{
+    let collection = next(alloc, segments);
+    AccessRoute::List(collection, next(alloc, segments))
+}
+
+// One entry of it, by the permission.
+fn entry(alloc: Global, segments: &mut IntoIter<Text>) -> AccessRoute
+    ensures { result ≡ AccessRoute.Entry (nth_segment 0 (into_iter_items segments.old)) (nth_segment 1 (into_iter_items segments.old)) (nth_segment 3 (into_iter_items segments.old)) }
+{
+    let collection = next(alloc, segments);
+    let name = next(alloc, segments);
+    AccessRoute::Entry(collection, name, following(alloc, segments))
 }
 
 /// Whether a request to this place by this method creates an organisation, which its body names.

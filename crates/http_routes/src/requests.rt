@@ -41,15 +41,17 @@ impl Head {
             → IfOk result (λ head. head.request ≡ head_in method.now target.now callers versions connections) }
     {
         let verb = verb_of(method);
+        let caller = caller_of(alloc, caller)?;
+        let asked = parameters_of(alloc, target)?;
         let aim = aim_of(alloc, routes, segments_of(alloc, target)?, verb)?;
         Ok(Head {
             request: Request {
-                caller: caller_of(alloc, caller)?,
+                caller,
                 api: api_of(version),
                 verb,
                 place: aim.place,
                 availability: aim.availability,
-                asked: parameters_of(alloc, target)?,
+                asked,
                 body: Body::Empty,
                 close,
             },
