@@ -144,7 +144,7 @@ impl Shard {
         let mut state = state;
         let reply = org_machine::serve(alloc, &mut state, request, steps);
         if state.is_there() {
-            let _ = self.organisations.insert(key, state);
+            drop(self.organisations.insert(key, state));
         }
         reply
     }

@@ -5,7 +5,7 @@ use Rattle.query_text.specs.Query.{Ors, Ands, Item, negated, ands_of, ands_size,
 use Rattle.search_query.specs.Matching.{HasWanted, IsWanted, MeetsItem, turned}
 use Rattle.query_text.specs.declared.query.What.{What}
 use Rattle.query_text.specs.declared.term.Wanted.{Wanted}
-use Rattle.search_query.specs.declared.pair.Pair.{Pair}
+use Rattle.search_query.specs.Pair.{Pair}
 
 -- one NOT more, inside or outside
 pub under_more : (n : ℕ) (x : Item) → under n (negated x) ≡ negated (under n x)

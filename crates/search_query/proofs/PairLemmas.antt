@@ -8,8 +8,7 @@ use Rattle.std.specs.List.{dedup, dedup_from}
 use Rattle.std.specs.List.Sorted.{IsSorted, IsPermutation}
 use Rattle.std.proofs.lemmas.List.Kept.{IsStrictlySortedBy-dedup}
 use Rattle.std.proofs.lemmas.List.Sorted.{list_any-IsPermutation}
-use Rattle.search_query.specs.declared.pair.Pair.{Pair}
-use Rattle.search_query.specs.Pair.{pair, pair_cmp, pair_cmp_total, same_pair, lists, IsRising}
+use Rattle.search_query.specs.Pair.{Pair, pair, pair_cmp, pair_cmp_total, same_pair, lists, IsRising}
 
 -- texts, and pairs, that tie are the same
 texts_same : (xs ys : List ℕ) → is_eq (slice_cmp nat_cmp xs ys) ≡ true → xs ≡ ys

@@ -12,7 +12,7 @@ use Rattle.query_text.specs.declared.term.Wanted.TheVariants as wanted
 use Rattle.query_text.specs.declared.term.Sign.{Sign}
 use Rattle.query_text.specs.declared.term.Sign.TheVariants.{Any, One, Byte}
 use Rattle.query_text.specs.declared.term.Range.{Range}
-use Rattle.search_query.specs.declared.pair.Pair.{Pair}
+use Rattle.search_query.specs.Pair.{Pair}
 
 -- a byte of a character other than its first
 abbrev pub is_rest : ℕ → Bool

@@ -1,16 +1,29 @@
 -- Pairs of a field and a value, and lists of them in order.
-use Rattle.std.specs.Prelude.{ℕ, Bool, List}
+use Rattle.std.specs.Prelude.{ℕ, Bool, List, refl, take, drop}
+use Rattle.std.specs.Coded.{Coded, code_by, coded×, coded_list, coded_ℕ}
 use Rattle.std.specs.List.{list_any}
 use Rattle.std.specs.List.Sorted.{IsStrictlySortedBy}
 use Rattle.std.specs.declared.cmp.Ordering.{Ordering}
 use Rattle.std.specs.Ordering.{nat_cmp, ordering_then, eq_by_cmp}
 use Rattle.std.specs.Cmp.{IsTotalOrder, then_total, on_total}
 use Rattle.std.specs.Cmp.Lexicographic.{slice_cmp, nat_list_cmp_total}
-use Rattle.search_query.specs.declared.pair.Pair.{Pair}
+
+-- a field and a value
+pub record Pair : Type 0 where
+  pub field : List ℕ
+  pub value : List ℕ
 
 -- this field with this value
 abbrev pub pair : List ℕ → List ℕ → Pair
 pair field value = record { field = field; value = value }
+
+-- the field is the first so many bytes of a text, and the value the rest
+abbrev pub cut_at : ℕ → List ℕ → Pair
+cut_at n text = pair (take n text) (drop n text)
+
+-- how the logic stores a pair: as the field and the value
+abbrev pub pair_code : Coded Pair
+pair_code = code_by (List ℕ × List ℕ) (coded× (coded_list coded_ℕ) (coded_list coded_ℕ)) (λ p. (p.field, p.value)) (λ p. record { field = p.0; value = p.1 }) (λ _. refl)
 
 -- pairs are in the order of the bytes of their fields, and then of their values
 abbrev pub pair_cmp : Pair → Pair → Ordering

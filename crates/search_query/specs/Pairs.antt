@@ -5,10 +5,9 @@ use Rattle.std.specs.List.{starts_with, ends_with}
 use Rattle.doc_tree.specs.Doc.{Doc, null, boolean, whole, words, list, dict, Docs, no_docs, then_doc, Pairs, no_pairs, then_pair}
 use Rattle.doc_tree.specs.declared.kind.Kind.{Kind}
 use Rattle.doc_tree.specs.declared.kind.Kind.TheVariants.{Org, Node, Role, Environment, Bag, Client, User, Group, Container, Item, Cookbook, Artifact, Policy, PolicyGroup, Acl, Sandbox, File}
-use Rattle.search_query.specs.declared.pair.Pair.{Pair}
+use Rattle.search_query.specs.Pair.{Pair, pair}
 use Rattle.search_query.specs.declared.flatten.Way.{Way}
 use Rattle.search_query.specs.declared.flatten.Way.TheVariants.{Top, At}
-use Rattle.search_query.specs.Pair.{pair}
 
 -- the way to what stands at a key: the keys along it, joined by `_`, and the last of them
 abbrev pub onto : Way → List ℕ → Way

@@ -2,7 +2,7 @@
 ghost use Rattle.doc_tree.specs.Doc.{docs_of, pairs_of as doc_pairs};
 ghost use Rattle.doc_tree.specs.Tree.{doc_of};
 ghost use Rattle.search_query.specs.Pair.{IsRising, lists};
-ghost use Rattle.search_query.specs.declared.pair.Pair as pair;
+ghost use Rattle.search_query.specs.Pair as specs;
 ghost use Rattle.search_query.specs.Pairs.{before_bracket, behind_front, found_by, in_brackets, is_level, is_node, item_pairs, items_pairs, key_pairs, node_fields, node_pairs, node_way, onto, pairs_at, pairs_below, pairs_of, pairs_of_each, run_list_pairs};
 ghost use Rattle.std.specs.Prelude.{◌≡◌, ◌++◌, IfOk, OnOk, codes, option_copied};
 ghost use Rattle.std.specs.Fmt.{signed_decimal};
@@ -26,7 +26,7 @@ pub(crate) enum Way {
 /// `default` or `override` isn't counted, and its run list gives the recipes and roles that it names.
 pub fn pairs(alloc: Global, kind: Kind, tree: &Tree) -> Result<Pairs, NoMemory>
     ensures rising { IfOk result IsRising }
-    ensures members { IfOk result (λ found. (p : pair.Pair) → lists found p ≡ lists (pairs_of kind (doc_of tree.now)) p) }
+    ensures members { IfOk result (λ found. (p : specs.Pair) → lists found p ≡ lists (pairs_of kind (doc_of tree.now)) p) }
 {
     Ok(Pairs::of(gathered(alloc, kind, tree)?.into_vec()))
 }
@@ -126,14 +126,8 @@ fn push(alloc: Global, way: &Way, value: &str, found: &mut Listed<Pair>) -> Resu
     match way {
         Way::Top => Ok(()),
         Way::At(path, last) => {
-            found.push(Pair {
-                field: path.copy(alloc)?,
-                value: Text::from_str(alloc, value)?,
-            })?;
-            found.push(Pair {
-                field: last.copy(alloc)?,
-                value: Text::from_str(alloc, value)?,
-            })?;
+            found.push(Pair::of(alloc, path.as_str(), value)?)?;
+            found.push(Pair::of(alloc, last.as_str(), value)?)?;
             Ok(())
         }
     }
@@ -230,10 +224,7 @@ fn in_brackets(
     match rest {
         Some(rest) => match before_bracket(rest) {
             Some(name) => {
-                found.push(Pair {
-                    field: Text::from_str(alloc, field)?,
-                    value: Text::from_str(alloc, name)?,
-                })?;
+                found.push(Pair::of(alloc, field, name)?)?;
                 Ok(())
             }
             None => Ok(()),

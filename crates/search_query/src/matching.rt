@@ -93,7 +93,7 @@ fn has_wanted(field: &[u8], wanted: &Wanted, pairs: &[Pair]) -> bool
 fn is_met(field: &[u8], wanted: &Wanted, pair: &Pair) -> bool
     ensures { IsTrue result ↔ ((pair.now.field ≡ field.now) × IsWanted wanted.now pair.now.value) }
 {
-    pair.field.as_bytes() == field && is_wanted(wanted, pair.value.as_bytes())
+    pair.field() == field && is_wanted(wanted, pair.value())
 }
 
 fn is_wanted(wanted: &Wanted, value: &[u8]) -> bool

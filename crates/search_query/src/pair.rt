@@ -1,21 +1,65 @@
 //! A field with a value, and sets of them.
-ghost use Rattle.search_query.specs.Pair.{IsRising, lists, pair_cmp, pair_cmp_total, same_pair};
-ghost use Rattle.search_query.specs.declared.pair.Pair as pair;
+ghost use Rattle.search_query.specs.Pair.{IsRising, lists, pair, pair_cmp, pair_cmp_total, same_pair};
+ghost use Rattle.search_query.specs.Pair as specs;
 ghost use Rattle.std.specs.Cmp.{eq_by_cmp_equiv, partial_equiv_from_equiv, partial_order_from_total};
-ghost use Rattle.std.specs.Prelude.{◌≡◌, Some, refl};
+ghost use Rattle.std.specs.Prelude.{◌≡◌, IfOk, Some, refl};
 
-use doc_tree::Text;
+use doc_tree::{NoMemory, Text};
+use std::alloc::Global;
 use std::cmp::Ordering;
 use std::marker::Model;
 
-/// A field and a value, by which an object is found. Pairs are in the order of the bytes of their fields, and then of
-/// their values.
+/// A field and a value, by which an object is found: both in one text, so that a pair takes one piece of memory.
+/// Contracts see the field and the value. Pairs are in the order of the bytes of their fields, and then of their values.
 #[derive(Drop)]
 pub struct Pair {
-    /// The field.
-    pub field: Text,
-    /// The value.
-    pub value: Text,
+    // The field and then the value.
+    text: Text,
+    // How many bytes the field has.
+    cut: usize,
+}
+
+impl Model for Pair {
+    ghost use Rattle.std.specs.Prelude.{◌≤◌, length};
+    ghost use Rattle.search_query.specs.Pair as specs;
+
+    ghost Value = { specs.Pair };
+
+    ghost coded = { specs.pair_code };
+
+    ghost view = { λ p. specs.cut_at p.cut p.text };
+
+    ghost invariant = { λ p. p.cut ≤ length p.text };
+}
+
+impl Pair {
+    /// This field with this value, copied into one text.
+    pub fn of(alloc: Global, field: &str, value: &str) -> Result<Pair, NoMemory>
+        ensures { IfOk result (λ p. p ≡ pair field.now value.now) }
+    {
+        let room = field.len().saturating_add(value.len());
+        let mut text = String::with_capacity(alloc, room)?;
+        text.push_str(field)?;
+        text.push_str(value)?;
+        Ok(Pair {
+            text: Text::of(text),
+            cut: field.len(),
+        })
+    }
+
+    /// The bytes of the field, which are UTF-8.
+    pub fn field(&self) -> &[u8]
+        ensures { result.now ≡ self.now.field }
+    {
+        &self.text.as_bytes()[..self.cut]
+    }
+
+    /// The bytes of the value, which are UTF-8.
+    pub fn value(&self) -> &[u8]
+        ensures { result.now ≡ self.now.value }
+    {
+        &self.text.as_bytes()[self.cut..]
+    }
 }
 
 impl PartialEq for Pair {
@@ -52,9 +96,9 @@ impl Ord for Pair {
     ghost matches_eq = { λ x y. refl };
 
     fn cmp(&self, other: &Self) -> Ordering {
-        self.field
-            .cmp(&other.field)
-            .then(self.value.cmp(&other.value))
+        self.field()
+            .cmp(other.field())
+            .then(self.value().cmp(other.value()))
     }
 }
 
@@ -66,10 +110,13 @@ pub struct Pairs {
 
 impl Model for Pairs {
     ghost use Rattle.std.specs.Prelude.{List};
-    ghost use Rattle.search_query.specs.declared.pair.Pair as pair;
+    ghost use Rattle.std.specs.Coded.{coded_list};
+    ghost use Rattle.search_query.specs.Pair as specs;
     ghost use Rattle.search_query.specs.Pair.{IsRising};
 
-    ghost Value = { List pair.Pair };
+    ghost Value = { List specs.Pair };
+
+    ghost coded = { coded_list specs.pair_code };
 
     ghost view = { λ p. p.items.items };
 
@@ -80,7 +127,7 @@ impl Pairs {
     /// Some pairs, in any order and with any repeats: they are put in order where they stand, which takes no memory.
     pub(crate) fn of(items: Vec<Pair>) -> Pairs
         ensures rising { IsRising result }
-        ensures members { (p : pair.Pair) → lists result p ≡ lists items.items p }
+        ensures members { (p : specs.Pair) → lists result p ≡ lists items.items p }
     {
         let mut items = items;
         items.sort_unstable();

@@ -144,9 +144,9 @@ fn queries_find_what_the_rules_say(rt: HostRuntime) -> Result<(), Fail> {
 fn told(alloc: Global, pairs: Pairs) -> Result<String, NoMemory> {
     let mut text = String::new(alloc);
     for pair in pairs.as_slice() {
-        text.push_str(pair.field.as_str())?;
+        text.push_str(str::from_utf8(pair.field()).unwrap_or("no text"))?;
         text.push_str("=")?;
-        text.push_str(pair.value.as_str())?;
+        text.push_str(str::from_utf8(pair.value()).unwrap_or("no text"))?;
         text.push_str(" ")?;
     }
     Ok(text)
