@@ -66,7 +66,8 @@ fn merge_dicts(alloc: Global, parts: &[Part]) -> Result<Inner, NoMemory>
     ensures below { IfOk result (λ inner. AreEffective (pieces_of parts.now) (dict (pairs_of inner.fields)) (leaves_of inner.leaves.items)) }
 {
     let groups = grouped(alloc, parts)?;
-    let mut inner = Inner::none(alloc);
+    let empty = Inner::with_room(alloc, groups.len())?;
+    let mut inner = empty;
     for (key, group) in groups {
         // No group is empty; that the merge ends needs to know it here.
         if !group.is_empty() {

@@ -43,14 +43,14 @@ impl Node {
 }
 
 impl Inner {
-    /// No fields.
-    pub(crate) fn none(alloc: Global) -> Inner
-        ensures { (result.fields ≡ []) × (result.leaves.items ≡ []) }
+    /// No fields, and room for so many.
+    pub(crate) fn with_room(alloc: Global, count: usize) -> Result<Inner, NoMemory>
+        ensures { IfOk result (λ inner. (inner.fields ≡ []) × (inner.leaves.items ≡ [])) }
     {
-        Inner {
-            fields: Fields::new(alloc),
+        Ok(Inner {
+            fields: Fields::with_capacity(alloc, count)?,
             leaves: Vec::new(alloc),
-        }
+        })
     }
 
     /// These fields and one more, with the leaves below it.
