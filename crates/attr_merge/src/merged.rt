@@ -100,7 +100,17 @@ fn in_order(alloc: Global, leaves: Vec<Leaf>) -> Result<BTreeMap<Vec<Text>, Vec<
     let mut left = leaves;
     let mut found = BTreeMap::new(alloc);
     while let Some(leaf) = left.pop() {
-        found.insert(leaf.path, leaf.origin)?;
+        let Leaf { path, origin } = leaf;
+        found.insert(without_room(path), origin)?;
     }
     Ok(found)
+}
+
+// A path without room for more keys: many paths are kept for long. It takes no memory.
+fn without_room(path: Vec<Text>) -> Vec<Text>
+    ensures { result.items ≡ path.items }
+{
+    let mut path = path;
+    path.shrink_to_fit();
+    path
 }
