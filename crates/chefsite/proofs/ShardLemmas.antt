@@ -47,6 +47,48 @@ states-written before now org new state request reply put had is_org step name =
     (λ same. ap (λ n. state_at (kept_at before n)) (sym ((bytes_decides org name).0 same)) ∙ had) step
     ∙ sym (state_then-known org name request reply (state_at (kept_at before name)) is_org)
 
+-- the same of one that wasn't there
+left_under : (own : Bool) (before now new : State) (request : Request) (reply : Reply)
+    → now ≡ cond own new before
+    → (own ≡ true → before ≡ None)
+    → new ≡ after (mark_of reply) request None
+    → now ≡ cond own (after (mark_of reply) request before) before
+left_under true before now new request reply kept none step = kept ∙ step ∙ ap (after (mark_of reply) request) (sym (none refl))
+left_under false before now new request reply kept none step = kept
+
+-- what a request left of an organisation that wasn't there is the state under its name
+pub states-left : (before now : List ℕ → State) (org : List ℕ) (new : State) (request : Request) (reply : Reply)
+    → ((name : List ℕ) → now name ≡ cond (bytes_eq org name) new (before name))
+    → before org ≡ None
+    → org_of request ≡ Some org
+    → new ≡ after (mark_of reply) request None
+    → (name : List ℕ) → now name ≡ state_then name request reply (before name)
+states-left before now org new request reply kept none is_org step name =
+    left_under (bytes_eq org name) (before name) (now name) new request reply (kept name)
+    (λ same. ap before (sym ((bytes_decides org name).0 same)) ∙ none) step
+    ∙ sym (state_then-known org name request reply (before name) is_org)
+
+-- under one name: none of an organisation that isn't there, any other as before
+none_under : (own : Bool) (before new : State) → (own ≡ true → before ≡ None) → new ≡ None → before ≡ cond own new before
+none_under true before new none gone = none refl ∙ sym gone
+none_under false before new none gone = refl
+
+-- one that wasn't there and isn't there changes no state
+pub states-same : (before : List ℕ → State) (org : List ℕ) (new : State) → before org ≡ None → new ≡ None → (name : List ℕ) → before name ≡ cond (bytes_eq org name) new (before name)
+states-same before org new none gone name =
+    none_under (bytes_eq org name) (before name) new (λ same. ap before (sym ((bytes_decides org name).0 same)) ∙ none) gone
+
+-- what stands under a name is the state of what is kept there
+kept_under : (own : Bool) (before now : Option Kept) (new : Kept) → now ≡ cond own (Some new) before → state_at now ≡ cond own (state_in new) (state_at before)
+kept_under true before now new put = ap state_at put
+kept_under false before now new put = ap state_at put
+
+-- what is kept under the name of an organisation is the state there, and every other is as before
+pub states-kept : (before now : KeptOrganisations) (org : List ℕ) (new : Kept)
+    → ((name : List ℕ) → kept_at now name ≡ cond (bytes_eq org name) (Some new) (kept_at before name))
+    → (name : List ℕ) → state_at (kept_at now name) ≡ cond (bytes_eq org name) (state_in new) (state_at (kept_at before name))
+states-kept before now org new put name = kept_under (bytes_eq org name) (kept_at before name) (kept_at now name) new (put name)
+
 -- no move makes an organisation go
 moves_keep : (moves : List Move) (organisation : Organisation) → after_moves moves (Some organisation) ≢ None
 moves_keep [] organisation gone = absurd (cc)
@@ -104,26 +146,6 @@ named-written before now org new put is_named were name =
 pub on_ok : {T E P : Type 0} (result : Result T E) → IsOk result → OnOk result P → P
 on_ok (Ok value) ok promised = promised
 on_ok (Err error) ok promised = absurd (cc)
-
--- under one name: an organisation that isn't there stays away
-absent_under : (own : Bool) (before : State) (request : Request) (reply : Reply)
-    → (own ≡ true → before ≡ after (mark_of reply) request before)
-    → before ≡ cond own (after (mark_of reply) request before) before
-absent_under true before request reply stays = stays refl
-absent_under false before request reply stays = refl
-
--- an organisation that isn't there, and isn't afterwards, changes nothing
-pub states-absent : (before : KeptOrganisations) (org : List ℕ) (request : Request) (reply : Reply)
-    → state_at (kept_at before org) ≡ None
-    → org_of request ≡ Some org
-    → after (mark_of reply) request None ≡ None
-    → (name : List ℕ) → state_at (kept_at before name) ≡ state_then name request reply (state_at (kept_at before name))
-states-absent before org request reply none is_org stays name =
-    absent_under (bytes_eq org name) (state_at (kept_at before name)) request reply
-    (λ same.
-    let here : state_at (kept_at before name) ≡ None = ap (λ n. state_at (kept_at before n)) (sym ((bytes_decides org name).0 same)) ∙ none in
-    here ∙ sym stays ∙ ap (after (mark_of reply) request) (sym here))
-    ∙ sym (state_then-known org name request reply (state_at (kept_at before name)) is_org)
 
 -- a request of one organisation is of no other
 state_then-other : (org name : List ℕ) (request : Request) (reply : Reply) (state : State) → org_of request ≡ Some org → org ≢ name

@@ -26,7 +26,7 @@ pub struct Shard {
 }
 
 impl Shard {
-    ghost use Rattle.std.specs.Prelude.{◌<◌, ◌≤◌, ◌||◌, Some, IfOk, OnOk};
+    ghost use Rattle.std.specs.Prelude.{◌<◌, ◌≤◌, ◌||◌, Some, IfOk, OnOk, cond, bytes_eq};
     ghost use Rattle.org_core.specs.Requests.{org_of};
     ghost use Rattle.org_machine.specs.Marks.{mark_of, answer, IsLawful};
     ghost use Rattle.org_machine.specs.Serving.{IsGood, state_then};
@@ -143,9 +143,31 @@ impl Shard {
     {
         let mut state = state;
         let reply = org_machine::serve(alloc, &mut state, request, steps);
-        if state.is_there() {
-            drop(self.organisations.insert(key, state));
-        }
+        self.keep_if_there(key, state);
         reply
+    }
+
+    // Keeps an organisation, of which nothing was kept before, if it is there.
+    fn keep_if_there(&mut self, key: Text, state: OrgState)
+        requires name { state.name ≡ key }
+        requires absent { states_in self.old key ≡ None }
+        requires room { HasRoom self.old }
+        ensures { (name : List ℕ) → states_in self.new name ≡ cond (bytes_eq key name) (state_in state) (states_in self.old name) }
+    {
+        let is_there = state.is_there();
+        match is_there.then_some((key, state)) {
+            Some((key, state)) => self.keep(key, state),
+            None => {}
+        }
+    }
+
+    // Keeps an organisation that is there.
+    fn keep(&mut self, key: Text, state: OrgState)
+        requires name { state.name ≡ key }
+        requires there { state_in state ≢ None }
+        requires room { HasRoom self.old }
+        ensures { (name : List ℕ) → states_in self.new name ≡ cond (bytes_eq key name) (state_in state) (states_in self.old name) }
+    {
+        drop(self.organisations.insert(key, state));
     }
 }
