@@ -1,5 +1,5 @@
 -- What the request left of the organisation is the state under its name.
-use Rattle.std.proofs.Common.{◌∙◌, sym, ap}
+use Rattle.std.proofs.Common.{◌∙◌, ap}
 use Rattle.org_machine.specs.Marks.{mark_of, after}
 use Rattle.chefsite.specs.Shards.{states_in}
 use Rattle.chefsite.proofs.ShardLemmas.{states-left}
