@@ -1,0 +1,79 @@
+-- What the search finds, for the private clauses.
+use Rattle.std.specs.Prelude.{◌≡◌, ℕ, ◌+◌, ◌<◌, List, [], map, length, slice_get, Contains, Option, Some, None}
+use Rattle.std.specs.declared.vec.Vec.{Vec}
+use Rattle.version_rules.specs.declared.needs.Need.{Need}
+use Rattle.version_rules.specs.declared.versions.Version.{Version}
+use Rattle.version_rules.specs.Meets.{Meets}
+use Rattle.version_rules.specs.Order.{version_cmp}
+use Rattle.std.specs.Ordering.{ordering_then}
+use Rattle.std.specs.declared.cmp.Ordering.{Ordering}
+use Rattle.dep_solver.specs.declared.roots.Pin.{Pin}
+use Rattle.dep_solver.specs.declared.roots.Roots.{Roots}
+use Rattle.dep_solver.specs.declared.rules.EnvRules.{EnvRules}
+use Rattle.dep_solver.specs.declared.search.Place.{Place}
+use Rattle.dep_solver.specs.declared.universe.Release.{Release}
+use Rattle.dep_solver.specs.declared.universe.Universe.{Universe}
+use Rattle.dep_solver.specs.Best.{IsBest}
+use Rattle.dep_solver.specs.Names.{CookbookName, name_cmp}
+use Rattle.dep_solver.specs.Solutions.{Choice, IsAllowed, IsSolution, choice_of}
+use Rattle.dep_solver.specs.Universes.{releases_in}
+use Rattle.dep_solver.specs.Walks.{Follow}
+
+-- the name and the version of a place
+abbrev pub pin_of : Place → Pin
+pin_of place = record { name = place.name.now; version = place.release.now.version }
+
+-- the places are the walk of the best solution: a walk of distinct names, whose choice is the best
+pub record FindsBest (universe : Universe) (rules : EnvRules) (roots : Roots) (places : List Pin) : Type 0 where
+  pub best : IsBest universe rules roots (choice_of places)
+  pub follow : Follow universe roots.names [] places
+
+-- the best solution's places, or none where there is no solution
+abbrev pub Finds : {Z : Type 0} → Universe → EnvRules → Roots → Option (Vec Place Z) → Type 0
+Finds universe rules roots (Some places) = FindsBest universe rules roots (map pin_of places.items)
+Finds universe rules roots None = (choice : Choice) → ¬ (IsSolution universe rules roots choice)
+
+-- a version of a name meets the pins and the rules
+pub record MeetsAll (rules : EnvRules) (roots : Roots) (name : CookbookName) (version : Version) : Type 0 where
+  pub meets_pins : (pin : Pin) → Contains roots.pins pin → pin.name ≡ name → version ≡ pin.version
+  pub meets_rules : (rule : Need) → Contains rules.rules rule → rule.name ≡ name → Meets version rule.constraint
+
+-- a version meets a need, the pins and the rules
+pub record IsChoosable (rules : EnvRules) (roots : Roots) (need : Need) (version : Version) : Type 0 where
+  pub meets : Meets version need.constraint
+  pub meets_all : MeetsAll rules roots need.name version
+
+-- a version that a need has: it is released, allowed by pins and rules, and meets the need
+pub record CanMeet (universe : Universe) (rules : EnvRules) (roots : Roots) (need : Need) : Type 0 where
+  pub version : Version
+  pub allowed : IsAllowed universe rules roots need.name version
+  pub meets : Meets version need.constraint
+
+-- a release of a name goes with the places that were chosen
+pub record Fits (universe : Universe) (rules : EnvRules) (roots : Roots) (places : List Place) (name : CookbookName) (release : Release) : Type 0 where
+  pub meets_pins : (pin : Pin) → Contains roots.pins pin → pin.name ≡ name → release.version ≡ pin.version
+  pub meets_rules : (rule : Need) → Contains rules.rules rule → rule.name ≡ name → Meets release.version rule.constraint
+  pub meets_places : (place : Place) → Contains places place → (need : Need) → Contains place.release.now.needs need → need.name ≡ name → Meets release.version need.constraint
+  pub meets_itself : (need : Need) → Contains release.needs need → need.name ≡ name → Meets release.version need.constraint
+  pub places_meet : (need : Need) → Contains release.needs need → (place : Place) → Contains places place → place.name.now ≡ need.name → Meets place.release.now.version need.constraint
+  pub needs_can_be_met : (need : Need) → Contains release.needs need → CanMeet universe rules roots need
+
+-- a place of a name at the greatest of its releases that fits, behind those of which so many were given up
+pub record IsGreatest (universe : Universe) (rules : EnvRules) (roots : Roots) (places : List Place) (name : CookbookName) (releases : List Release) (given_up reached : ℕ) (place : Place) : Type 0 where
+  pub of_name : place.name.now ≡ name
+  pub before : place.reached ≡ reached
+  pub fits : Fits universe rules roots places name place.release.now
+  pub index : ℕ
+  pub stands : slice_get releases index ≡ Some place.release.now
+  pub counted : index + place.tried ≡ length releases
+  pub left : index + given_up < length releases
+  pub greater : (other : ℕ) (release : Release) → index < other → other + given_up < length releases → slice_get releases other ≡ Some release → ¬ (Fits universe rules roots places name release)
+
+-- no release fits but those that were given up
+abbrev pub NoneFits : Universe → EnvRules → Roots → List Place → CookbookName → List Release → ℕ → Type 0
+NoneFits universe rules roots places name releases given_up =
+    (index : ℕ) (release : Release) → index + given_up < length releases → slice_get releases index ≡ Some release → ¬ (Fits universe rules roots places name release)
+
+-- the order of names and versions: by the name, and then by the version
+abbrev pub pin_cmp : Pin → Pin → Ordering
+pin_cmp p q = ordering_then (name_cmp p.name q.name) (version_cmp p.version q.version)
