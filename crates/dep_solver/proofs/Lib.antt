@@ -1,1 +1,11 @@
 pub mod OrderLemmas
+pub mod ListLemmas
+pub mod VersionLemmas
+pub mod WalkLemmas
+pub mod ReleaseLemmas
+pub mod SearchLemmas
+pub mod ChoiceLemmas
+pub mod EndLemmas
+pub mod EachLemmas
+pub mod CandidateLemmas
+pub mod LawLemmas

@@ -31,8 +31,8 @@ IsMet choice need = (version : Version) × (finite.get choice need.name ≡ Some
 
 -- a name that is a root, or that a chosen version of a reached name needs
 pub data IsReached (universe : Universe) (roots : List CookbookName) (choice : Choice) : CookbookName → Type 0 where
-  root : {name : CookbookName} → Contains roots name → IsReached universe roots choice name
-  need : {name : CookbookName} {version : Version} {of : Need} → IsReached universe roots choice name → finite.get choice name ≡ Some version
+  by_root : {name : CookbookName} → Contains roots name → IsReached universe roots choice name
+  by_need : {name : CookbookName} {version : Version} {of : Need} → IsReached universe roots choice name → finite.get choice name ≡ Some version
       → Contains (needs_in universe name version) of → IsReached universe roots choice of.name
 
 -- a choice that holds every root, has versions that are allowed, meets every need of each, and has only names that are reached

@@ -169,7 +169,8 @@ fn can_be_met(universe: &Universe, rules: &EnvRules, roots: &Roots, needs: &[Nee
 fn has_version(universe: &Universe, rules: &EnvRules, roots: &Roots, need: &Need) -> bool
     ensures { IsTrue result ↔ CanMeet universe.now rules.now roots.now need.now }
 {
-    for release in releases_in(universe, &need.name) {
+    let releases = releases_in(universe, &need.name);
+    for release in releases {
         if is_choosable(rules, roots, need, &release.version) {
             return true;
         }
@@ -192,7 +193,8 @@ fn is_choosable(rules: &EnvRules, roots: &Roots, need: &Need, version: &Version)
 pub(crate) fn has_allowed(universe: &Universe, rules: &EnvRules, roots: &Roots, name: &Name) -> bool
     ensures { IsTrue result ↔ ((version : Version) × IsAllowed universe.now rules.now roots.now name.now version) }
 {
-    for release in releases_in(universe, name) {
+    let releases = releases_in(universe, name);
+    for release in releases {
         if is_allowed(rules, roots, name, &release.version) {
             return true;
         }

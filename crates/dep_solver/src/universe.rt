@@ -7,7 +7,7 @@ ghost use Rattle.dep_solver.specs.Names.{name_cmp};
 
 use doc_tree::{Listed, Name, NoMemory};
 use std::alloc::Global;
-use version_rules::{Need, Needs, Version};
+use version_rules::{Need, Needs, Version, compare};
 
 /// A version of a cookbook, and what it needs, in the byte order of the needed names and each name once.
 #[derive(Drop)]
@@ -136,7 +136,7 @@ fn do_versions_rise(releases: &[Release]) -> bool
     ensures { IsTrue result ↔ IsStrictlySortedBy version_cmp (map (λ release. release.version) releases.now) }
 {
     for index in 1..releases.len() {
-        if releases[index - 1].version >= releases[index].version {
+        if compare(&releases[index - 1].version, &releases[index].version).is_ge() {
             return false;
         }
     }

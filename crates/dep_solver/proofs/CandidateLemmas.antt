@@ -1,0 +1,61 @@
+-- The releases that can be chosen, and the greatest of them.
+use Rattle.std.proofs.Common.{◌≡◌, ℕ, ◌+◌, ◌-◌, ◌<◌, ◌≤◌, ◌⊎◌, List, length, map, get_or, slice_get, Option, Some, Contains, arith, ap, refl, sym, subst, ◌∙◌, inl, inr}
+use Rattle.std.proofs.lemmas.Option.{same_Some, slice_get_read, slice_get_within}
+use Rattle.version_rules.specs.declared.needs.Need.{Need}
+use Rattle.version_rules.specs.declared.versions.Version.{Version}
+use Rattle.dep_solver.specs.declared.roots.Roots.{Roots}
+use Rattle.dep_solver.specs.declared.rules.EnvRules.{EnvRules}
+use Rattle.dep_solver.specs.declared.universe.Release.{Release}
+use Rattle.dep_solver.specs.declared.universe.Universe.{Universe}
+use Rattle.dep_solver.specs.Names.{CookbookName}
+use Rattle.dep_solver.specs.Search.{CanMeet, IsChoosable, MeetsAll}
+use Rattle.dep_solver.specs.Solutions.{IsAllowed}
+use Rattle.dep_solver.specs.Universes.{releases_in}
+use Rattle.dep_solver.proofs.ListLemmas.{contains_map, map_contains}
+use Rattle.dep_solver.proofs.OrderLemmas.{three}
+
+module _ (universe : Universe) (rules : EnvRules) (roots : Roots) where
+  -- a release that meets the pins and the rules is an allowed version
+  pub as_allowed : (name : CookbookName) (releases : List Release) (r : Release) → releases ≡ releases_in universe name → Contains releases r → MeetsAll rules roots name r.version
+      → IsAllowed universe rules roots name r.version
+  as_allowed name releases r are h all = record {
+    released = subst (λ rs. Contains (map (λ (r : Release). r.version) rs) r.version) are (contains_map (λ (r : Release). r.version) releases r h);
+    meets_pins = all.meets_pins; meets_rules = all.meets_rules;
+  }
+
+  pub none_allowed : (name : CookbookName) (releases : List Release) → releases ≡ releases_in universe name → ((r : Release) → Contains releases r → MeetsAll rules roots name r.version → ⊥)
+      → (version : Version) → IsAllowed universe rules roots name version → ⊥
+  none_allowed name releases are none version allowed =
+      let found = map_contains (λ (r : Release). r.version) releases version (subst (λ rs. Contains (map (λ (r : Release). r.version) rs) version) (sym are) allowed.released) in
+      none found.0 found.1 (subst (λ v. MeetsAll rules roots name v) (sym found.2) (record { meets_pins = allowed.meets_pins; meets_rules = allowed.meets_rules }))
+
+  pub can_meet : (need : Need) (releases : List Release) (r : Release) → releases ≡ releases_in universe need.name → Contains releases r → IsChoosable rules roots need r.version → CanMeet universe rules roots need
+  can_meet need releases r are h choosable = record { version = r.version; allowed = as_allowed need.name releases r are h choosable.meets_all; meets = choosable.meets }
+
+  pub cannot_meet : (need : Need) (releases : List Release) → releases ≡ releases_in universe need.name → ((r : Release) → Contains releases r → IsChoosable rules roots need r.version → ⊥)
+      → CanMeet universe rules roots need → ⊥
+  cannot_meet need releases are none can =
+      let allowed = can.allowed in
+      let found = map_contains (λ (r : Release). r.version) releases can.version (subst (λ rs. Contains (map (λ (r : Release). r.version) rs) can.version) (sym are) allowed.released) in
+      none found.0 found.1 (subst (λ v. IsChoosable rules roots need v) (sym found.2) (record { meets = can.meets; meets_all = record { meets_pins = allowed.meets_pins; meets_rules = allowed.meets_rules } }))
+
+module _ {A : Type 0} (P : A → Type 0) (xs : List A) (given_up : ℕ) where
+  -- of the last so many, P holds of none but of those that were given up
+  pub record HasTried (tried : ℕ) : Type 0 where
+    pub low : given_up ≤ tried
+    pub none : (index : ℕ) (x : A) → index + given_up < length xs → length xs ≤ index + tried → slice_get xs index ≡ Some x → P x → ⊥
+
+  pub tried_none : HasTried given_up
+  tried_none = record { low = omega arith; none = λ index x below above e p. absurd (omega arith) }
+
+  pub tried_more : (tried index : ℕ) (x : A) → HasTried tried → index + (tried + 1) ≡ length xs → slice_get xs index ≡ Some x → (P x → ⊥) → HasTried (tried + 1)
+  tried_more tried index x before at stands not = record {
+    low = omega (arith, before.low);
+    none = λ i y below above e p. elim (three i index) [
+      | inl h ↦ absurd (omega arith)
+      | inr h ↦ elim h [
+        | inl same ↦ not (subst P (same_Some y x (sym e ∙ ap (slice_get xs) same ∙ stands)) p)
+        | inr g ↦ before.none i y below (omega arith) e p
+      ]
+    ];
+  }
