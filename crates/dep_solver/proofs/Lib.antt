@@ -8,4 +8,7 @@ pub mod ChoiceLemmas
 pub mod EndLemmas
 pub mod EachLemmas
 pub mod CandidateLemmas
+pub mod MeasureLemmas
+pub mod LoopLemmas
+pub mod SeenLemmas
 pub mod LawLemmas

@@ -1,5 +1,5 @@
 -- What the search finds, for the private clauses.
-use Rattle.std.specs.Prelude.{◌≡◌, ℕ, ◌+◌, ◌<◌, List, [], map, length, slice_get, Contains, Option, Some, None}
+use Rattle.std.specs.Prelude.{◌≡◌, ℕ, ◌+◌, ◌<◌, List, [], ◌∷◌, ◌++◌, map, take, length, slice_get, Contains, Option, Some, None}
 use Rattle.std.specs.declared.vec.Vec.{Vec}
 use Rattle.version_rules.specs.declared.needs.Need.{Need}
 use Rattle.version_rules.specs.declared.versions.Version.{Version}
@@ -17,7 +17,10 @@ use Rattle.dep_solver.specs.Best.{IsBest}
 use Rattle.dep_solver.specs.Names.{CookbookName, name_cmp}
 use Rattle.dep_solver.specs.Solutions.{Choice, IsAllowed, IsSolution, choice_of}
 use Rattle.dep_solver.specs.Universes.{releases_in}
-use Rattle.dep_solver.specs.Walks.{Follow}
+use Rattle.dep_solver.specs.Walks.{Follow, with_needs}
+use Rattle.std.specs.Borrow.{Bor}
+use Rattle.doc_tree.specs.declared.name.Name.{Name}
+use Rattle.dep_solver.specs.declared.search.Search.{Search}
 
 -- the name and the version of a place
 abbrev pub pin_of : Place → Pin
@@ -77,3 +80,26 @@ NoneFits universe rules roots places name releases given_up =
 -- the order of names and versions: by the name, and then by the version
 abbrev pub pin_cmp : Pin → Pin → Ordering
 pin_cmp p q = ordering_then (name_cmp p.name q.name) (version_cmp p.version q.version)
+
+-- the names behind references
+abbrev pub seen : List (Bor Name) → List CookbookName
+seen names = map (λ n. n.now) names
+
+-- a search that has done nothing: the roots are reached
+pub record Begins (roots : Roots) (search : Search) : Type 0 where
+  pub names : seen search.names.items ≡ roots.names
+  pub places : search.places.items ≡ []
+  pub given_up : search.given_up ≡ 0
+
+-- the place is behind the others, and what its release needs is reached
+pub record Chooses (old : Search) (place : Place) (new : Search) : Type 0 where
+  pub names : seen new.names.items ≡ with_needs (seen old.names.items) place.release.now.needs
+  pub places : new.places.items ≡ old.places.items ++ place ∷ []
+  pub given_up : new.given_up ≡ 0
+
+-- the last place is gone with the names that were reached by it, and its releases that were tried are given up
+pub record GivesUp (old new : Search) : Type 0 where
+  pub last : Place
+  pub places : old.places.items ≡ new.places.items ++ last ∷ []
+  pub names : new.names.items ≡ take last.reached old.names.items
+  pub given_up : new.given_up ≡ last.tried

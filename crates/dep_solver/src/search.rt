@@ -1,7 +1,6 @@
 //! The search for the best solution: versions are tried greatest first, name by name in the order of the walk.
-ghost use Rattle.std.specs.Prelude.{◌≡◌, IfOk, MatchOption, map};
-ghost use Rattle.dep_solver.specs.Best.{IsBest};
-ghost use Rattle.dep_solver.specs.Search.{pin_of, Finds};
+ghost use Rattle.std.specs.Prelude.{◌≡◌, IfOk};
+ghost use Rattle.dep_solver.specs.Search.{Finds};
 
 use crate::candidates::greatest;
 use crate::finding::releases_in;
@@ -22,6 +21,19 @@ pub(crate) struct Place<'a> {
     pub(crate) reached: usize,
 }
 
+/// What the search has done: the names that are reached, in the order of the walk, the places of those that have a
+/// version, and how many of the greatest releases of the next name were given up.
+#[derive(Drop)]
+pub(crate) struct Search<'a> {
+    pub(crate) names: Vec<&'a Name>,
+    pub(crate) places: Vec<Place<'a>>,
+    pub(crate) given_up: usize,
+}
+
+ghost use Rattle.std.specs.Prelude.{OnOk, Some, None, slice_get, length, option_map, MatchOption, MatchBool, []};
+ghost use Rattle.dep_solver.specs.Search.{Begins, Chooses, GivesUp, IsGreatest, NoneFits, seen};
+ghost use Rattle.dep_solver.specs.Universes.{releases_in};
+
 /// The places of the best solution's walk, or `None` exactly where there is no solution.
 pub(crate) fn best_places<'a>(
     alloc: Global,
@@ -31,38 +43,87 @@ pub(crate) fn best_places<'a>(
 ) -> Result<Option<Vec<Place<'a>>>, NoMemory>
     ensures { IfOk result (Finds universe.now rules.now roots.now) }
 {
-    let mut names = root_names(alloc, roots)?;
-    let mut places: Vec<Place<'a>> = Vec::new(alloc);
-    let mut given_up = 0;
-    while places.len() < names.len() {
-        let name = names[places.len()];
+    let mut search = Search::begin(alloc, roots)?;
+    while let Some(name) = search.next_name() {
+        if let Some(place) = search.greatest_place(universe, rules, roots, name) {
+            search.choose(place)?;
+        } else if !search.give_up() {
+            return Ok(None);
+        }
+    }
+    Ok(Some(search.places))
+}
+
+impl<'a> Search<'a> {
+    fn begin(alloc: Global, roots: &'a Roots) -> Result<Search<'a>, NoMemory>
+        ensures { IfOk result (Begins roots.now) }
+    {
+        Ok(Search {
+            names: root_names(alloc, roots)?,
+            places: Vec::new(alloc),
+            given_up: 0,
+        })
+    }
+
+    /// The first name that has no version yet.
+    fn next_name(&self) -> Option<&'a Name>
+        ensures { option_map (λ name. name.now) result ≡ slice_get (seen self.now.names.items) (length self.now.places.items) }
+    {
+        self.names.get(self.places.len()).copied()
+    }
+
+    /// The place of a name at its greatest release that fits and wasn't given up.
+    fn greatest_place(
+        &self,
+        universe: &'a Universe,
+        rules: &EnvRules,
+        roots: &Roots,
+        name: &'a Name,
+    ) -> Option<Place<'a>>
+        ensures { MatchOption result
+            (NoneFits universe.now rules.now roots.now self.now.places.items name.now (releases_in universe.now name.now) self.now.given_up)
+            (IsGreatest universe.now rules.now roots.now self.now.places.items name.now (releases_in universe.now name.now) self.now.given_up (length (seen self.now.names.items))) }
+    {
         let releases = releases_in(universe, name);
-        if let Some(place) = greatest(
+        let places = self.places.as_slice();
+        let reached = self.names.len();
+        greatest(
             universe,
             rules,
             roots,
-            places.as_slice(),
+            places,
             name,
             releases,
-            given_up,
-            names.len(),
-        ) {
-            add_needs(&mut names, place.release.needs.as_slice())?;
-            places.push(place)?;
-            given_up = 0;
-        } else {
-            let Some(last) = places.pop() else {
-                return Ok(None);
-            };
-            names.truncate(last.reached);
-            given_up = last.tried;
-        }
+            self.given_up,
+            reached,
+        )
     }
-    Ok(Some(places))
+
+    /// Takes a place, and puts what its release needs behind the names.
+    fn choose(&mut self, place: Place<'a>) -> Result<(), NoMemory>
+        ensures { OnOk result (Chooses self.old place.entry self.new) }
+    {
+        add_needs(&mut self.names, place.release.needs.as_slice())?;
+        self.places.push(place)?;
+        self.given_up = 0;
+        Ok(())
+    }
+
+    /// Gives up the release of the last place, and is false where there is no place.
+    fn give_up(&mut self) -> bool
+        ensures { MatchBool result (GivesUp self.old self.new) (self.old.places.items ≡ []) }
+    {
+        let Some(last) = self.places.pop() else {
+            return false;
+        };
+        self.names.truncate(last.reached);
+        self.given_up = last.tried;
+        true
+    }
 }
 
 fn root_names<'a>(alloc: Global, roots: &'a Roots) -> Result<Vec<&'a Name>, NoMemory>
-    ensures { IfOk result (λ names. map (λ name. name.now) names.items ≡ roots.now.names) }
+    ensures { IfOk result (λ names. seen names.items ≡ roots.now.names) }
 {
     let mut names = Vec::new(alloc);
     for name in roots.names.as_slice() {
@@ -71,12 +132,11 @@ fn root_names<'a>(alloc: Global, roots: &'a Roots) -> Result<Vec<&'a Name>, NoMe
     Ok(names)
 }
 
-ghost use Rattle.std.specs.Prelude.{OnOk};
 ghost use Rattle.dep_solver.specs.Walks.{with_name, with_needs};
 
 /// Puts the needed names behind the names, each where it is new.
 fn add_needs<'a>(names: &mut Vec<&'a Name>, needs: &'a [Need]) -> Result<(), NoMemory>
-    ensures { OnOk result (map (λ name. name.now) names.new.items ≡ with_needs (map (λ name. name.now) names.old.items) needs.now) }
+    ensures { OnOk result (seen names.new.items ≡ with_needs (seen names.old.items) needs.now) }
 {
     for need in needs {
         add_name(names, &need.name)?;
@@ -85,7 +145,7 @@ fn add_needs<'a>(names: &mut Vec<&'a Name>, needs: &'a [Need]) -> Result<(), NoM
 }
 
 fn add_name<'a>(names: &mut Vec<&'a Name>, name: &'a Name) -> Result<(), NoMemory>
-    ensures { OnOk result (map (λ name. name.now) names.new.items ≡ with_name (map (λ name. name.now) names.old.items) name.now) }
+    ensures { OnOk result (seen names.new.items ≡ with_name (seen names.old.items) name.now) }
 {
     if !is_among(names, name) {
         names.push(name)?;
@@ -93,11 +153,11 @@ fn add_name<'a>(names: &mut Vec<&'a Name>, name: &'a Name) -> Result<(), NoMemor
     Ok(())
 }
 
-ghost use Rattle.std.specs.Set.{is_member};
+ghost use Rattle.std.specs.List.{list_any};
 ghost use Rattle.dep_solver.specs.Names.{same_name};
 
 fn is_among(names: &[&Name], name: &Name) -> bool
-    ensures { result ≡ is_member same_name (map (λ name. name.now) names.now) name.now }
+    ensures { result ≡ list_any (λ other. same_name name.now other.now) names.now }
 {
     names.iter().any(|other| *name == **other)
 }
