@@ -9,7 +9,6 @@ use Rattle.dep_solver.specs.Solutions.{Choice}
 use Rattle.dep_solver.specs.Walks.{Follow, IsWalk, next}
 use Rattle.dep_solver.proofs.WalkLemmas.{next_at}
 use Rattle.dep_solver.proofs.EndLemmas.{same_choice}
-use Rattle.dep_solver.proofs.LoopLemmas.{finds}
 
 -- places that go on from a front behind which a walk has ended
 goes_past : (universe : Universe) (roots : List CookbookName) (front : List Pin) (p : Pin) (rest : List Pin) → next universe roots (front ++ []) ≡ None → Follow universe roots [] (front ++ p ∷ rest) → ⊥

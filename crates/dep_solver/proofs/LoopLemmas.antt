@@ -1,6 +1,6 @@
 -- The loop of the search: what it keeps, and that each branch keeps it and comes nearer to the end.
-use Rattle.std.proofs.Common.{◌≡◌, ℕ, ◌+◌, ◌*◌, ◌<◌, ◌≤◌, List, [], ◌∷◌, ◌++◌, length, map, take, slice_get, Option, Some, None, Contains, arith, ap, refl, sym, subst, ◌∙◌, inl, inr, append_assoc, append-nil, take_at}
-use Rattle.std.proofs.lemmas.List.{length-append, length-map, map-append, map_push}
+use Rattle.std.proofs.Common.{◌≡◌, ℕ, ◌+◌, ◌*◌, ◌<◌, ◌≤◌, Bor, List, [], ◌∷◌, ◌++◌, length, map, take, slice_get, Option, Some, None, Contains, arith, ap, refl, sym, subst, ◌∙◌, inl, inr, append_assoc, append-nil, take_at}
+use Rattle.std.proofs.lemmas.List.{length-append, length-map, map-append, map_push, take-map}
 use Rattle.std.proofs.lemmas.List.Elements.{Contains-append_left, Contains-push}
 use Rattle.std.proofs.lemmas.Option.{slice_get_past}
 use Rattle.version_rules.specs.declared.needs.Need.{Need}
@@ -13,7 +13,9 @@ use Rattle.dep_solver.specs.declared.search.Place.{Place}
 use Rattle.dep_solver.specs.declared.universe.Release.{Release}
 use Rattle.dep_solver.specs.declared.universe.Universe.{Universe}
 use Rattle.dep_solver.specs.Names.{CookbookName}
-use Rattle.dep_solver.specs.Search.{FindsBest, Fits, IsGreatest, NoneFits, pin_of}
+use Rattle.dep_solver.specs.Search.{Begins, Chooses, FindsBest, Fits, GivesUp, IsGreatest, NoneFits, pin_of, seen}
+use Rattle.dep_solver.specs.declared.search.Search.{Search}
+use Rattle.doc_tree.specs.declared.name.Name.{Name}
 use Rattle.dep_solver.specs.Solutions.{Choice, IsSolution}
 use Rattle.dep_solver.specs.Universes.{needs_in, releases_in}
 use Rattle.dep_solver.specs.Walks.{next, with_needs, with_places}
@@ -169,12 +171,6 @@ module _ (universe : Universe) (rules : EnvRules) (roots : Roots) where
       (ap (next universe roots.names) (sym seen) ∙ next_is names places given_up name s at)
       (λ other r below e goes. none_goes names places given_up name releases s are none other r below e (subst (λ ps. Goes universe rules roots ps name r) (sym seen) goes))
 
-  pub finds : (names : List CookbookName) (places : List Place) (given_up : ℕ) → Searches names places given_up → length names ≤ length places → FindsBest universe rules roots (map pin_of places)
-  finds names places given_up s past =
-      let ends : next universe roots.names (map pin_of places) ≡ None =
-      ap (λ n. slice_get (with_places universe roots.names (map pin_of places)) n) (length-map places pin_of) ∙ ap (λ ns. slice_get ns (length places)) (sym s.named) ∙ slice_get_past names (length places) past in
-      found_best universe rules roots (map pin_of places) given_up s.searched s.sound ends
-
   -- ---- the measure
 
   pub to_do : List Place → ℕ → ℕ
@@ -210,3 +206,43 @@ module _ (universe : Universe) (rules : EnvRules) (roots : Roots) where
       let was : map (λ (p : Place). p.tried) places ≡ ts ++ last.tried ∷ [] = ap (map (λ (p : Place). p.tried)) split ∙ map_push (λ (p : Place). p.tried) front last in
       let longer : length places ≡ length front + 1 = ap length split ∙ length-append front (last ∷ []) in
       subst (λ m. 2 * left_to_try b d ts last.tried + length front < 2 * left_to_try b d m given_up + length places) (sym was) (omega (arith, stays, longer))
+
+  -- ---- the same of the search's own steps
+
+  pub begun : (s : Search) → Begins roots s → Searches (seen s.names.items) s.places.items s.given_up
+  begun s b = subst (λ g. Searches (seen s.names.items) s.places.items g) (sym b.given_up) (subst (λ ps. Searches (seen s.names.items) ps 0) (sym b.places) (starts (seen s.names.items) b.names))
+
+  pub chose : (old new : Search) (name : CookbookName) (place : Place) → Searches (seen old.names.items) old.places.items old.given_up → slice_get (seen old.names.items) (length old.places.items) ≡ Some name
+      → IsGreatest universe rules roots old.places.items name (releases_in universe name) old.given_up (length (seen old.names.items)) place → Chooses old place new
+      → Searches (seen new.names.items) new.places.items new.given_up
+  chose old new name place s at greatest step =
+      subst (λ g. Searches (seen new.names.items) new.places.items g) (sym step.given_up) (subst (λ ps. Searches (seen new.names.items) ps 0) (sym step.places)
+      (chosen (seen old.names.items) old.places.items old.given_up name (releases_in universe name) (length (seen old.names.items)) place (seen new.names.items) s at refl greatest refl step.names))
+
+  pub chose_nearer : (old new : Search) (name : CookbookName) (place : Place) → Searches (seen old.names.items) old.places.items old.given_up → slice_get (seen old.names.items) (length old.places.items) ≡ Some name
+      → IsGreatest universe rules roots old.places.items name (releases_in universe name) old.given_up (length (seen old.names.items)) place → Chooses old place new
+      → to_do new.places.items new.given_up < to_do old.places.items old.given_up
+  chose_nearer old new name place s at greatest step =
+      subst (λ g. to_do new.places.items g < to_do old.places.items old.given_up) (sym step.given_up)
+      (chosen_nearer (seen old.names.items) old.places.items old.given_up name (releases_in universe name) (length (seen old.names.items)) place new.places.items s at refl greatest step.places)
+
+  pub gave_up : (old new : Search) (name : CookbookName) → Searches (seen old.names.items) old.places.items old.given_up → slice_get (seen old.names.items) (length old.places.items) ≡ Some name
+      → NoneFits universe rules roots old.places.items name (releases_in universe name) old.given_up → GivesUp old new → Searches (seen new.names.items) new.places.items new.given_up
+  gave_up old new name s at none step =
+      let names : seen new.names.items ≡ take step.last.reached (seen old.names.items) = ap seen step.names ∙ sym (take-map (λ (n : Bor Name). n.now) step.last.reached old.names.items) in
+      subst (λ g. Searches (seen new.names.items) new.places.items g) (sym step.given_up)
+      (gives_up (seen old.names.items) old.places.items old.given_up name (releases_in universe name) new.places.items step.last (seen new.names.items) s at refl none step.places names)
+
+  pub gave_up_nearer : (old new : Search) → GivesUp old new → to_do new.places.items new.given_up < to_do old.places.items old.given_up
+  gave_up_nearer old new step =
+      subst (λ g. to_do new.places.items g < to_do old.places.items old.given_up) (sym step.given_up) (gives_up_nearer old.places.items new.places.items step.last old.given_up step.places)
+
+  pub failed : (old : Search) (name : CookbookName) → Searches (seen old.names.items) old.places.items old.given_up → slice_get (seen old.names.items) (length old.places.items) ≡ Some name
+      → NoneFits universe rules roots old.places.items name (releases_in universe name) old.given_up → old.places.items ≡ [] → (choice : Choice) → IsSolution universe rules roots choice → ⊥
+  failed old name s at none empty = fails (seen old.names.items) old.places.items old.given_up name (releases_in universe name) s at refl none empty
+
+  pub found : (s : Search) → Searches (seen s.names.items) s.places.items s.given_up → slice_get (seen s.names.items) (length s.places.items) ≡ None → FindsBest universe rules roots (map pin_of s.places.items)
+  found s keeps none =
+      let ends : next universe roots.names (map pin_of s.places.items) ≡ None =
+      ap (λ n. slice_get (with_places universe roots.names (map pin_of s.places.items)) n) (length-map s.places.items pin_of) ∙ ap (λ ns. slice_get ns (length s.places.items)) (sym keeps.named) ∙ none in
+      found_best universe rules roots (map pin_of s.places.items) s.given_up keeps.searched keeps.sound ends
