@@ -20,7 +20,8 @@ module _ (universe : Universe) (rules : EnvRules) (roots : Roots) where
       → IsAllowed universe rules roots name r.version
   as_allowed name releases r are h all = record {
     released = subst (λ rs. Contains (map (λ (r : Release). r.version) rs) r.version) are (contains_map (λ (r : Release). r.version) releases r h);
-    meets_pins = all.meets_pins; meets_rules = all.meets_rules;
+    meets_pins = all.meets_pins;
+    meets_rules = all.meets_rules;
   }
 
   pub none_allowed : (name : CookbookName) (releases : List Release) → releases ≡ releases_in universe name → ((r : Release) → Contains releases r → MeetsAll rules roots name r.version → ⊥)

@@ -32,6 +32,7 @@ find_chosen (p ∷ places) name version e = by (eq_by_cmp name_cmp name p.name) 
   where
     rest : (found : IsChosen places name version) → IsChosen (p ∷ places) name version
     rest found = record { place = found.place; among = there p places found.place found.among; named = found.named; at_version = found.at_version }
+
     by : (b : Bool) → eq_by_cmp name_cmp name p.name ≡ b → (finite.find name_cmp name (map (λ (p : Pin). (p.name, p.version)) places) ≡ Some version → IsChosen (p ∷ places) name version)
         → cond b (Some p.version) (finite.find name_cmp name (map (λ (p : Pin). (p.name, p.version)) places)) ≡ Some version → IsChosen (p ∷ places) name version
     by true is more found = record { place = p; among = here p places; named = sym (tells_apart names_apart name p.name is); at_version = same_Some p.version version found }

@@ -22,7 +22,6 @@ use Rattle.dep_solver.proofs.ListLemmas.{contains_at, contains_map, here, map_co
 use Rattle.dep_solver.proofs.SearchLemmas.{HasSearched, IsLeft, IsPassed, Sound}
 use Rattle.dep_solver.proofs.WalkLemmas.{Follow-front, in_places, kept, names_all, names_distinct, with_places-grows, with_places-has}
 
-
 module _ (universe : Universe) (roots : List CookbookName) (choice : Choice) where
   -- the next name after places that the choice has and that are reached is reached
   next_reached : (before : List Pin) (name : CookbookName) → next universe roots before ≡ Some name → ((p : Pin) → Contains before p → IsReached universe roots choice p.name) → Holds choice before
@@ -115,7 +114,11 @@ module _ (universe : Universe) (rules : EnvRules) (roots : Roots) where
         | inr passed ↦
             let split : places ≡ (passed.alike ++ passed.place ∷ []) ++ passed.rest = passed.split ∙ sym (append_assoc passed.alike (passed.place ∷ []) passed.rest) in
             inr (record {
-              alike = passed.alike; name = passed.place.name; greater = passed.place.version; less = passed.less; below = passed.below;
+              alike = passed.alike;
+              name = passed.place.name;
+              greater = passed.place.version;
+              less = passed.less;
+              below = passed.below;
               one_walk = record {
                 names = Follow-front universe roots.names [] (passed.alike ++ passed.place ∷ []) passed.rest (subst (λ zs. Follow universe roots.names [] zs) split sound.follow);
                 versions = λ p h. holds_places places sound.follow p (subst (λ zs. Contains zs p) (sym split) (Contains-append_left (passed.alike ++ passed.place ∷ []) passed.rest p h));

@@ -1,14 +1,25 @@
 -- The laws of walks and of solutions.
-use Rattle.std.proofs.Common.{◌≡◌, List, [], ◌∷◌, ◌++◌, Option, Some, None, ap, sym, subst, ◌∙◌, append-nil}
+use Rattle.std.proofs.Common.{◌≡◌, ℕ, zero, suc, ◌+◌, ◌<◌, ◌≤◌, ◌⊎◌, List, [], ◌∷◌, ◌++◌, length, Option, Some, None, Less, Equal, Greater, Ordering, arith, ap, refl, sym, subst, ◌∙◌, inl, inr, append-nil, append_assoc}
+use Rattle.std.proofs.lemmas.List.{length-append}
 use Rattle.std.proofs.lemmas.Option.{none-some, same_Some}
+use Rattle.std.specs.Ordering.{ordering_reverse}
+use Rattle.version_rules.specs.declared.versions.Version.{Version}
+use Rattle.version_rules.specs.Order.{IsBelow, version_cmp}
 use Rattle.dep_solver.specs.declared.roots.Pin.{Pin}
+use Rattle.dep_solver.specs.declared.roots.Roots.{Roots}
+use Rattle.dep_solver.specs.declared.rules.EnvRules.{EnvRules}
 use Rattle.dep_solver.specs.declared.universe.Universe.{Universe}
-use Rattle.dep_solver.specs.Laws.{GoOnAlike, PlacesFixTheNext}
+use Rattle.dep_solver.specs.Best.{IsBetter}
+use Rattle.dep_solver.specs.Laws.{GoOnAlike, OneIsBetter, PlacesFixTheNext, SolutionsHaveWalks}
 use Rattle.dep_solver.specs.Names.{CookbookName}
-use Rattle.dep_solver.specs.Solutions.{Choice}
-use Rattle.dep_solver.specs.Walks.{Follow, IsWalk, next}
-use Rattle.dep_solver.proofs.WalkLemmas.{next_at}
+use Rattle.dep_solver.specs.Solutions.{Choice, IsSolution}
+use Rattle.dep_solver.specs.Walks.{Begins, Follow, IsWalk, next}
 use Rattle.dep_solver.proofs.EndLemmas.{same_choice}
+use Rattle.dep_solver.proofs.ListLemmas.{nowhere}
+use Rattle.dep_solver.proofs.MeasureLemmas.{few_places}
+use Rattle.dep_solver.proofs.SearchLemmas.{begins_front, begins_push, held}
+use Rattle.dep_solver.proofs.VersionLemmas.{below_from_less, version_from_equal, versions_total}
+use Rattle.dep_solver.proofs.WalkLemmas.{names_distinct, next_at}
 
 -- places that go on from a front behind which a walk has ended
 goes_past : (universe : Universe) (roots : List CookbookName) (front : List Pin) (p : Pin) (rest : List Pin) → next universe roots (front ++ []) ≡ None → Follow universe roots [] (front ++ p ∷ rest) → ⊥
@@ -21,3 +32,65 @@ places_fix universe roots one other front [] (p ∷ rest) a b = goes_past univer
 places_fix universe roots one other front (p ∷ more) [] a b = goes_past universe roots front p more b.ends a.begins.names
 places_fix universe roots one other front (p ∷ more) (q ∷ rest) a b =
     same_Some p.name q.name (sym (next_at universe roots front p more a.begins.names) ∙ next_at universe roots front q rest b.begins.names)
+
+-- ---- each solution has a walk
+
+walk_from : (universe : Universe) (rules : EnvRules) (roots : Roots) (choice : Choice) → IsSolution universe rules roots choice → (fuel : ℕ) (places : List Pin) → Begins universe roots.names choice places
+    → length universe.cookbooks < length places + fuel → (walk : List Pin) × IsWalk universe roots.names choice walk
+walk_from universe rules roots choice solution zero places begins enough =
+    let few = few_places universe places (names_distinct universe roots.names places roots.distinct begins.names) (λ p h. (solution.allowed p.name p.version (begins.versions p h)).released) in
+    absurd (omega arith)
+walk_from universe rules roots choice solution (suc fuel) places begins enough =
+    by (next universe roots.names places) refl
+    (λ p more. walk_from universe rules roots choice solution fuel (places ++ p ∷ []) more (omega (arith, length-append places (p ∷ []))))
+  where
+    by : (o : Option CookbookName) → next universe roots.names places ≡ o
+        → ((p : Pin) → Begins universe roots.names choice (places ++ p ∷ []) → (walk : List Pin) × IsWalk universe roots.names choice walk)
+        → (walk : List Pin) × IsWalk universe roots.names choice walk
+    by None e more = (places, record { begins = begins; ends = e })
+    by (Some name) e more =
+        let has = held universe rules roots choice places name solution begins.versions e in
+        more (record { name = name; version = has.0 }) (begins_push universe rules roots choice places (record { name = name; version = has.0 }) begins e has.1)
+
+pub have_walks : SolutionsHaveWalks
+have_walks universe rules roots choice solution =
+    walk_from universe rules roots choice solution (length universe.cookbooks + 1) [] (record { names = tt; versions = λ p h. absurd (nowhere p h) }) (omega arith)
+
+-- ---- of two solutions one is better
+
+-- two versions are one, or one is below the other
+below_cases : (v w : Version) → IsBelow v w ⊎ (v ≡ w) ⊎ IsBelow w v
+below_cases v w = by (version_cmp v w) refl
+  where
+    by : (o : Ordering) → version_cmp v w ≡ o → IsBelow v w ⊎ (v ≡ w) ⊎ IsBelow w v
+    by Less e = inl (below_from_less v w e)
+    by Equal e = inr (inl (version_from_equal v w e))
+    by Greater e = inr (inr (below_from_less w v (versions_total.antisymm w v ∙ ap ordering_reverse e)))
+
+compare_from : (universe : Universe) (rules : EnvRules) (roots : Roots) (one other : Choice) → IsSolution universe rules roots one → IsSolution universe rules roots other
+    → (front rest : List Pin) → Begins universe roots.names one (front ++ rest) → Begins universe roots.names other front → next universe roots.names (front ++ rest) ≡ None
+    → (one ≡ other) ⊎ IsBetter universe roots one other ⊎ IsBetter universe roots other one
+compare_from universe rules roots one other a b front [] begins also ends =
+    let ends_here : next universe roots.names front ≡ None = ap (next universe roots.names) (sym (append-nil front)) ∙ ends in
+    let begins_here = begins_front universe rules roots one front [] begins in
+    inl (same_choice universe rules roots front one also.names ends_here a begins_here.versions ∙ sym (same_choice universe rules roots front other also.names ends_here b also.versions))
+compare_from universe rules roots one other a b front (p ∷ rest) begins also ends =
+    let at = next_at universe roots.names front p rest begins.names in
+    let has = held universe rules roots other front p.name b also.versions at in
+    let own = begins_push universe rules roots other front (record { name = p.name; version = has.0 }) also at has.1 in
+    let assoc : front ++ p ∷ [] ++ rest ≡ front ++ p ∷ rest = append_assoc front (p ∷ []) rest in
+    let begins_then = subst (λ zs. Begins universe roots.names one zs) (sym assoc) begins in
+    let first = begins_front universe rules roots one (front ++ p ∷ []) rest begins_then in
+    elim (below_cases has.0 p.version) [
+      | inl below ↦ inr (inl (record { alike = front; name = p.name; greater = p.version; less = has.0; below = below; one_walk = first; other_walk = own }))
+      | inr h ↦ elim h [
+        | inl same ↦ compare_from universe rules roots one other a b (front ++ p ∷ []) rest begins_then
+            (begins_push universe rules roots other front p also at (has.1 ∙ ap Some same)) (ap (next universe roots.names) assoc ∙ ends)
+        | inr above ↦ inr (inr (record { alike = front; name = p.name; greater = has.0; less = p.version; below = above; one_walk = own; other_walk = first }))
+      ]
+    ]
+
+pub one_better : OneIsBetter
+one_better universe rules roots one other a b =
+    let walk = have_walks universe rules roots one a in
+    compare_from universe rules roots one other a b [] walk.0 walk.1.begins (record { names = tt; versions = λ p h. absurd (nowhere p h) }) walk.1.ends

@@ -11,4 +11,7 @@ pub mod CandidateLemmas
 pub mod MeasureLemmas
 pub mod LoopLemmas
 pub mod SeenLemmas
+pub mod RefusalLemmas
+pub mod DistinctLemmas
+pub mod SolvedLemmas
 pub mod LawLemmas

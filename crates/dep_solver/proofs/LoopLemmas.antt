@@ -124,11 +124,12 @@ module _ (universe : Universe) (rules : EnvRules) (roots : Roots) where
         searched = subst (λ ps. HasSearched universe rules roots ps 0) (sym seen)
             (search_chooses universe rules roots (map pin_of places) given_up (pin_of place) place.release.now greatest.index s.searched (next_is names places given_up name s at ∙ ap Some (sym greatest.of_name)) stands refl
             (λ other r above below e goes.
-                greatest.greater other r above (subst (λ rs. other + given_up < length rs) (sym in_own) below) (ap (λ rs. slice_get rs other) in_own ∙ e)
-                (subst (λ n. Fits universe rules roots places n r) greatest.of_name (goes_fits places place.name.now r s.kept goes))));
+            greatest.greater other r above (subst (λ rs. other + given_up < length rs) (sym in_own) below) (ap (λ rs. slice_get rs other) in_own ∙ e)
+            (subst (λ n. Fits universe rules roots places n r) greatest.of_name (goes_fits places place.name.now r s.kept goes))));
         sound = subst (λ ps. Sound universe rules roots ps) (sym seen) (sound_chosen names places given_up name releases reached place s at are greatest);
         kept = Kept-push universe roots.names [] places place s.kept (record {
-          index = greatest.index; stands = stands;
+          index = greatest.index;
+          stands = stands;
           counted = greatest.counted ∙ ap length in_own;
           reached = greatest.before ∙ all ∙ ap length s.named;
         });

@@ -92,7 +92,7 @@ few_places universe places distinct released =
     let inside : length names ≤ length all =
     length-le_from_is_member nat_list_eq_equiv names all distinct
     (λ q h.
-        let at = map_contains (λ (p : Pin). p.name) places q (Contains-from_any name_from_same q names h) in
-        let found = map_contains (λ (r : Release). r.version) (releases_in universe at.0.name) at.0.version (released at.0 at.1) in
-        list_any-from_Contains nat_list_eq_equiv q all (subst (λ n. Contains all n) at.2 (released_name universe.cookbooks at.0.name found.0 found.1))) in
+    let at = map_contains (λ (p : Pin). p.name) places q (Contains-from_any name_from_same q names h) in
+    let found = map_contains (λ (r : Release). r.version) (releases_in universe at.0.name) at.0.version (released at.0 at.1) in
+    list_any-from_Contains nat_list_eq_equiv q all (subst (λ n. Contains all n) at.2 (released_name universe.cookbooks at.0.name found.0 found.1))) in
     omega (arith, inside, length-map places (λ (p : Pin). p.name), length-map universe.cookbooks (λ (c : Cookbook). c.name))

@@ -18,7 +18,6 @@ use Rattle.dep_solver.proofs.ListLemmas.{at_contains, contains_at, in_tail, map_
 use Rattle.dep_solver.proofs.OrderLemmas.{less_from_sorted, three}
 use Rattle.dep_solver.proofs.VersionLemmas.{below_both, below_from_less, not_below_itself, same_version_itself, version_from_same, versions_total}
 
-
 rises_of : (found : Option Cookbook) → IsStrictlySortedBy version_cmp (map (λ (r : Release). r.version) (releases_of found))
 unfolding IsStrictlySortedBy
 rises_of None = tt

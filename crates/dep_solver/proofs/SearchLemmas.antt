@@ -169,9 +169,13 @@ module _ (universe : Universe) (rules : EnvRules) (roots : Roots) where
 
   passed_push : (places : List Pin) (p : Pin) (choice : Choice) → IsPassed places choice → IsPassed (places ++ p ∷ []) choice
   passed_push places p choice h = record {
-    alike = h.alike; place = h.place; rest = h.rest ++ p ∷ []; less = h.less;
+    alike = h.alike;
+    place = h.place;
+    rest = h.rest ++ p ∷ [];
+    less = h.less;
     split = ap (λ z. z ++ p ∷ []) h.split ∙ append_assoc h.alike (h.place ∷ h.rest) (p ∷ []);
-    below = h.below; walk = h.walk;
+    below = h.below;
+    walk = h.walk;
   }
 
   pub search_chooses : (places : List Pin) (given_up : ℕ) (p : Pin) (release : Release) (index : ℕ) → HasSearched places given_up → next universe roots.names places ≡ Some p.name
@@ -186,7 +190,11 @@ module _ (universe : Universe) (rules : EnvRules) (roots : Roots) where
         let found = left.untried p.name has.0 at has.1 in
         elim (three found.index index) [
           | inl lower ↦ inr (record {
-            alike = places; place = p; rest = []; less = has.0; split = refl;
+            alike = places;
+            place = p;
+            rest = [];
+            less = has.0;
+            split = refl;
             below = subst (λ v. IsBelow v p.version) found.at.is (subst (λ v. IsBelow found.at.release.version v) is (stands_before universe p.name found.index index found.at.release release found.at.stands stands lower));
             walk = begins_push choice places (record { name = p.name; version = has.0 }) left.begins at has.1;
           })

@@ -27,9 +27,18 @@ version_from_same v w e = parts v w (major v w e) (minor v w e) (patch v w e)
   where
     major : (v w : Version) → same_version v w ≡ true → v.major ≡ w.major
     major v w e = grind (arith, nat_tests)
+
     minor : (v w : Version) → same_version v w ≡ true → v.minor ≡ w.minor
     minor v w e = grind (arith, nat_tests)
+
     patch : (v w : Version) → same_version v w ≡ true → v.patch ≡ w.patch
     patch v w e = grind (arith, nat_tests)
+
     parts : (v w : Version) → v.major ≡ w.major → v.minor ≡ w.minor → v.patch ≡ w.patch → v ≡ w
     parts v w a b c = λ i. record { major = a i; minor = b i; patch = c i }
+
+pub version_from_equal : (v w : Version) → version_cmp v w ≡ Equal → v ≡ w
+version_from_equal v w e = version_from_same v w (same v w e)
+  where
+    same : (v w : Version) → version_cmp v w ≡ Equal → same_version v w ≡ true
+    same v w e = grind (arith, nat_tests)

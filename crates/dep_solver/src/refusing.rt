@@ -35,13 +35,19 @@ fn lacking(alloc: Global, universe: &Universe, roots: &Roots) -> Result<Names, N
 {
     let mut names = Vec::new(alloc);
     for name in roots.names.as_slice() {
-        if cookbook_in(universe, name).is_none() {
+        if is_lacking(universe, name) {
             names.push(name.copy(alloc)?)?;
         }
     }
     names.sort_unstable();
     names.dedup();
     Ok(Names::of(names))
+}
+
+fn is_lacking(universe: &Universe, name: &Name) -> bool
+    ensures { IsTrue result ↔ IsLacking universe.now name.now }
+{
+    cookbook_in(universe, name).is_none()
 }
 
 fn without_version(
@@ -66,5 +72,8 @@ fn without_version(
 fn has_no_version(universe: &Universe, rules: &EnvRules, roots: &Roots, name: &Name) -> bool
     ensures { IsTrue result ↔ HasNoVersion universe.now rules.now roots.now name.now }
 {
-    cookbook_in(universe, name).is_some() && !has_allowed(universe, rules, roots, name)
+    if is_lacking(universe, name) {
+        return false;
+    }
+    !has_allowed(universe, rules, roots, name)
 }

@@ -18,7 +18,7 @@ pub returns-then-not-are_needs_met : goal.returns-then-not-are_needs_met
 returns-then-not-are_needs_met c = (
   λ h. absurd (true≢false (sym h)),
   λ all. absurd (true≢false (sym (c.are_needs_met.ensures.1 (subst (λ (ns : List Need). (need : Need) → Contains ns need → need.name ≡ c.args.name.now → Meets c.args.version.now need.constraint) (sym c.as_slice.ensures)
-    (all c.place-item.result (read_inside c.args.places.now c.loop-place.place-index c.place-item.result c.loop-place-test.true c.place-item.is)))) ∙ c.if-not-are_needs_met.true)),
+      (all c.place-item.result (read_inside c.args.places.now c.loop-place.place-index c.place-item.result c.loop-place-test.true c.place-item.is)))) ∙ c.if-not-are_needs_met.true)),
 )
 
 pub returns : goal.returns

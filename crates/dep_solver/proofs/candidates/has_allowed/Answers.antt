@@ -16,8 +16,11 @@ loop-release-preserved c =
 
 pub returns-then-is_allowed : goal.returns-then-is_allowed
 returns-then-is_allowed c = (
-  λ _. (c.release-item.result.version, as_allowed c.args.universe.now c.args.rules.now c.args.roots.now c.args.name.now c.releases_in-releases.result.now c.release-item.result c.releases_in-releases.ensures
-    (read_inside c.releases_in-releases.result.now c.loop-release.release-index c.release-item.result c.loop-release-test.true c.release-item.is) (c.is_allowed.ensures.0 c.if-is_allowed.true)),
+  λ _. (
+    c.release-item.result.version,
+    as_allowed c.args.universe.now c.args.rules.now c.args.roots.now c.args.name.now c.releases_in-releases.result.now c.release-item.result c.releases_in-releases.ensures
+        (read_inside c.releases_in-releases.result.now c.loop-release.release-index c.release-item.result c.loop-release-test.true c.release-item.is) (c.is_allowed.ensures.0 c.if-is_allowed.true),
+  ),
   λ _. refl,
 )
 
@@ -25,5 +28,5 @@ pub returns : goal.returns
 returns c = (
   λ h. absurd (true≢false (sym h)),
   λ has. absurd (none_allowed c.args.universe.now c.args.rules.now c.args.roots.now c.args.name.now c.releases_in-releases.result.now c.releases_in-releases.ensures
-    (each_all (λ (r : Release). ¬ (MeetsAll c.args.rules.now c.args.roots.now c.args.name.now r.version)) c.releases_in-releases.result.now c.loop-release.release-index c.loop-release-test.false c.loop-release.invariant) has.0 has.1),
+      (each_all (λ (r : Release). ¬ (MeetsAll c.args.rules.now c.args.roots.now c.args.name.now r.version)) c.releases_in-releases.result.now c.loop-release.release-index c.loop-release-test.false c.loop-release.invariant) has.0 has.1),
 )

@@ -17,7 +17,7 @@ loop-release-preserved c =
 pub returns-then-is_choosable : goal.returns-then-is_choosable
 returns-then-is_choosable c = (
   λ _. can_meet c.args.universe.now c.args.rules.now c.args.roots.now c.args.need.now c.releases_in-releases.result.now c.release-item.result c.releases_in-releases.ensures
-    (read_inside c.releases_in-releases.result.now c.loop-release.release-index c.release-item.result c.loop-release-test.true c.release-item.is) (c.is_choosable.ensures.0 c.if-is_choosable.true),
+      (read_inside c.releases_in-releases.result.now c.loop-release.release-index c.release-item.result c.loop-release-test.true c.release-item.is) (c.is_choosable.ensures.0 c.if-is_choosable.true),
   λ _. refl,
 )
 
@@ -25,5 +25,5 @@ pub returns : goal.returns
 returns c = (
   λ h. absurd (true≢false (sym h)),
   λ can. absurd (cannot_meet c.args.universe.now c.args.rules.now c.args.roots.now c.args.need.now c.releases_in-releases.result.now c.releases_in-releases.ensures
-    (each_all (λ (r : Release). ¬ (IsChoosable c.args.rules.now c.args.roots.now c.args.need.now r.version)) c.releases_in-releases.result.now c.loop-release.release-index c.loop-release-test.false c.loop-release.invariant) can),
+      (each_all (λ (r : Release). ¬ (IsChoosable c.args.rules.now c.args.roots.now c.args.need.now r.version)) c.releases_in-releases.result.now c.loop-release.release-index c.loop-release-test.false c.loop-release.invariant) can),
 )

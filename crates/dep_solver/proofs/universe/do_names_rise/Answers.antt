@@ -17,7 +17,7 @@ pub returns-then-ge : goal.returns-then-ge
 returns-then-ge c = (
   λ h. absurd (true≢false (sym h)),
   λ h. absurd (not_sorted (λ (c : Cookbook). c.name) name_cmp c.args.cookbooks.now c.loop-index.index c.index-cookbooks-index.result c.index-cookbooks-index-in-loop-index.result c.loop-index.auto.index c.loop-index-test.true
-    (not_less_from_ge (name_cmp (get_or c.args.cookbooks.now (c.loop-index.index - 1) c.index-cookbooks-index.result).name (get_or c.args.cookbooks.now c.loop-index.index c.index-cookbooks-index-in-loop-index.result).name) c.ge.result c.ge.ensures c.if-ge.true) h),
+      (not_less_from_ge (name_cmp (get_or c.args.cookbooks.now (c.loop-index.index - 1) c.index-cookbooks-index.result).name (get_or c.args.cookbooks.now c.loop-index.index c.index-cookbooks-index-in-loop-index.result).name) c.ge.result c.ge.ensures c.if-ge.true) h),
 )
 
 pub returns : goal.returns

@@ -17,7 +17,7 @@ pub returns-then-ge : goal.returns-then-ge
 returns-then-ge c = (
   λ h. absurd (true≢false (sym h)),
   λ h. absurd (not_sorted (λ (n : Need). n.name) name_cmp c.args.needs.now c.loop-index.index c.index-needs-index.result c.index-needs-index-in-loop-index.result c.loop-index.auto.index c.loop-index-test.true
-    (not_less_from_ge (name_cmp (get_or c.args.needs.now (c.loop-index.index - 1) c.index-needs-index.result).name (get_or c.args.needs.now c.loop-index.index c.index-needs-index-in-loop-index.result).name) c.ge.result c.ge.ensures c.if-ge.true) h),
+      (not_less_from_ge (name_cmp (get_or c.args.needs.now (c.loop-index.index - 1) c.index-needs-index.result).name (get_or c.args.needs.now c.loop-index.index c.index-needs-index-in-loop-index.result).name) c.ge.result c.ge.ensures c.if-ge.true) h),
 )
 
 pub returns : goal.returns

@@ -17,7 +17,7 @@ pub returns-then-is_ge : goal.returns-then-is_ge
 returns-then-is_ge c = (
   λ h. absurd (true≢false (sym h)),
   λ h. absurd (not_sorted (λ (r : Release). r.version) version_cmp c.args.releases.now c.loop-index.index c.index-releases-index.result c.index-releases-index-in-loop-index.result c.loop-index.auto.index c.loop-index-test.true
-    (not_less_from_ge (version_cmp (get_or c.args.releases.now (c.loop-index.index - 1) c.index-releases-index.result).version (get_or c.args.releases.now c.loop-index.index c.index-releases-index-in-loop-index.result).version) c.is_ge.result (c.is_ge.ensures ∙ ap is_ge c.compare.ensures.order) c.if-is_ge.true) h),
+      (not_less_from_ge (version_cmp (get_or c.args.releases.now (c.loop-index.index - 1) c.index-releases-index.result).version (get_or c.args.releases.now c.loop-index.index c.index-releases-index-in-loop-index.result).version) c.is_ge.result (c.is_ge.ensures ∙ ap is_ge c.compare.ensures.order) c.if-is_ge.true) h),
 )
 
 pub returns : goal.returns
