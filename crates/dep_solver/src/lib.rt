@@ -10,6 +10,8 @@ mod roots;
 mod rules;
 mod search;
 mod solved;
+#[cfg(test)]
+mod tests;
 mod universe;
 
 pub use laws::{one_is_better, places_fix_the_next, solutions_have_walks};
