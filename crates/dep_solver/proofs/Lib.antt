@@ -14,4 +14,5 @@ pub mod SeenLemmas
 pub mod RefusalLemmas
 pub mod DistinctLemmas
 pub mod SolvedLemmas
+pub mod FindLemmas
 pub mod LawLemmas

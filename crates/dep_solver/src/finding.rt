@@ -9,11 +9,11 @@ use doc_tree::Name;
 pub(crate) fn cookbook_in<'a>(universe: &'a Universe, name: &Name) -> Option<&'a Cookbook>
     ensures { option_copied result ≡ cookbook_in universe.now name.now }
 {
-    universe
-        .cookbooks
-        .as_slice()
-        .iter()
-        .find(|cookbook| cookbook.name == *name)
+    let cookbooks = universe.cookbooks.as_slice();
+    match cookbooks.binary_search_by(|cookbook| cookbook.name.cmp(name)) {
+        Ok(index) => Some(&cookbooks[index]),
+        Err(_) => None,
+    }
 }
 
 /// The releases of a name, least first, and none where the universe lacks it.
