@@ -1,7 +1,8 @@
 -- The laws of walks and of solutions.
-use Rattle.std.proofs.Common.{◌≡◌, ℕ, zero, suc, ◌+◌, ◌<◌, ◌≤◌, ◌⊎◌, List, [], ◌∷◌, ◌++◌, length, Option, Some, None, Less, Equal, Greater, Ordering, arith, ap, refl, sym, subst, ◌∙◌, inl, inr, append-nil, append_assoc}
+use Rattle.std.proofs.Common.{◌≡◌, ℕ, zero, suc, ◌+◌, ◌<◌, ◌≤◌, ◌⊎◌, List, [], ◌∷◌, ◌++◌, length, get_or, slice_get, Option, Some, None, Less, Equal, Greater, Ordering, arith, ap, refl, sym, subst, ◌∙◌, inl, inr, append-nil, append_assoc}
 use Rattle.std.proofs.lemmas.List.{length-append}
-use Rattle.std.proofs.lemmas.Option.{none-some, same_Some}
+use Rattle.std.proofs.lemmas.Option.{none-some, same_Some, slice_get-get_or}
+use Rattle.std.specs.FinMap as finite
 use Rattle.std.specs.Ordering.{ordering_reverse}
 use Rattle.version_rules.specs.declared.versions.Version.{Version}
 use Rattle.version_rules.specs.Order.{IsBelow, version_cmp}
@@ -9,16 +10,17 @@ use Rattle.dep_solver.specs.declared.roots.Pin.{Pin}
 use Rattle.dep_solver.specs.declared.roots.Roots.{Roots}
 use Rattle.dep_solver.specs.declared.rules.EnvRules.{EnvRules}
 use Rattle.dep_solver.specs.declared.universe.Universe.{Universe}
-use Rattle.dep_solver.specs.Best.{IsBetter}
-use Rattle.dep_solver.specs.Laws.{GoOnAlike, OneIsBetter, PlacesFixTheNext, SolutionsHaveWalks}
+use Rattle.dep_solver.specs.Best.{IsBest, IsBetter}
+use Rattle.dep_solver.specs.Laws.{BestIsNoneBetter, GoOnAlike, OneIsBetter, PlacesFixTheNext, SolutionsHaveWalks}
 use Rattle.dep_solver.specs.Names.{CookbookName}
 use Rattle.dep_solver.specs.Solutions.{Choice, IsSolution}
-use Rattle.dep_solver.specs.Walks.{Begins, Follow, IsWalk, next}
+use Rattle.dep_solver.specs.Walks.{Begins, Follow, Holds, IsWalk, next}
 use Rattle.dep_solver.proofs.EndLemmas.{same_choice}
-use Rattle.dep_solver.proofs.ListLemmas.{nowhere}
+use Rattle.dep_solver.proofs.ListLemmas.{here, nowhere, slice_get_at_end, slice_get_left, there}
+use Rattle.dep_solver.proofs.OrderLemmas.{three}
 use Rattle.dep_solver.proofs.MeasureLemmas.{few_places}
 use Rattle.dep_solver.proofs.SearchLemmas.{begins_front, begins_push, held}
-use Rattle.dep_solver.proofs.VersionLemmas.{below_from_less, version_from_equal, versions_total}
+use Rattle.dep_solver.proofs.VersionLemmas.{below_both, below_from_less, not_below_itself, version_from_equal, versions_total}
 use Rattle.dep_solver.proofs.WalkLemmas.{names_distinct, next_at}
 
 -- places that go on from a front behind which a walk has ended
@@ -94,3 +96,74 @@ pub one_better : OneIsBetter
 one_better universe rules roots one other a b =
     let walk = have_walks universe rules roots one a in
     compare_from universe rules roots one other a b [] walk.0 walk.1.begins (record { names = tt; versions = λ p h. absurd (nowhere p h) }) walk.1.ends
+
+-- ---- the best solution is the one than which none is better
+
+abbrev pin : CookbookName → Version → Pin
+pin name version = record { name = name; version = version }
+
+heads : (universe : Universe) (roots : List CookbookName) (choice : Choice) (before : List Pin) (x y : Pin) → next universe roots before ≡ Some x.name → next universe roots before ≡ Some y.name
+    → finite.get choice x.name ≡ Some x.version → finite.get choice y.name ≡ Some y.version → x ≡ y
+heads universe roots choice before x y a b h l =
+    let name : x.name ≡ y.name = same_Some x.name y.name (sym a ∙ b) in
+    let version : x.version ≡ y.version = same_Some x.version y.version (sym h ∙ ap (finite.get choice) name ∙ l) in
+    λ i. record { name = name i; version = version i }
+
+-- two lists that a walk of one choice begins with are alike at each place that both have
+one_walk : (universe : Universe) (roots : List CookbookName) (choice : Choice) (before xs ys : List Pin) → Follow universe roots before xs → Follow universe roots before ys → Holds choice xs → Holds choice ys
+    → (k : ℕ) (p q : Pin) → slice_get xs k ≡ Some p → slice_get ys k ≡ Some q → p ≡ q
+one_walk universe roots choice before [] ys f g h l k p q a b = absurd (none-some p a)
+one_walk universe roots choice before (x ∷ xs) [] f g h l k p q a b = absurd (none-some q b)
+one_walk universe roots choice before (x ∷ xs) (y ∷ ys) f g h l zero p q a b = sym (same_Some x p a) ∙ heads universe roots choice before x y f.0 g.0 (h x (here x xs)) (l y (here y ys)) ∙ same_Some y q b
+one_walk universe roots choice before (x ∷ xs) (y ∷ ys) f g h l (suc k) p q a b =
+    let same = heads universe roots choice before x y f.0 g.0 (h x (here x xs)) (l y (here y ys)) in
+    one_walk universe roots choice (before ++ x ∷ []) xs ys f.1 (subst (λ z. Follow universe roots (before ++ z ∷ []) ys) (sym same) g.1)
+    (λ r m. h r (there x xs r m)) (λ r m. l r (there y ys r m)) k p q a b
+
+-- two walks that part at different places contradict each other
+parts_before : (universe : Universe) (roots : Roots) (one other : Choice) (front : List Pin) (p q : Pin) (longer : List Pin) (r s : Pin) → IsBelow q.version p.version
+    → Begins universe roots.names one (front ++ p ∷ []) → Begins universe roots.names other (front ++ q ∷ []) → Begins universe roots.names other (longer ++ r ∷ []) → Begins universe roots.names one (longer ++ s ∷ [])
+    → length front < length longer → ⊥
+parts_before universe roots one other front p q longer r s below a b c d short =
+    let at : slice_get longer (length front) ≡ Some (get_or longer (length front) p) = slice_get-get_or longer (length front) p short in
+    let first : p ≡ get_or longer (length front) p =
+    one_walk universe roots.names one [] (front ++ p ∷ []) (longer ++ s ∷ []) a.names d.names a.versions d.versions (length front) p (get_or longer (length front) p) (slice_get_at_end front p []) (slice_get_left longer (s ∷ []) (length front) (get_or longer (length front) p) at) in
+    let second : q ≡ get_or longer (length front) p =
+    one_walk universe roots.names other [] (front ++ q ∷ []) (longer ++ r ∷ []) b.names c.names b.versions c.versions (length front) q (get_or longer (length front) p) (slice_get_at_end front q []) (slice_get_left longer (r ∷ []) (length front) (get_or longer (length front) p) at) in
+    not_below_itself p.version (subst (λ (z : Pin). IsBelow z.version p.version) (second ∙ sym first) below)
+
+-- two solutions aren't each better than the other
+not_both : (universe : Universe) (roots : Roots) (one other : Choice) → IsBetter universe roots one other → IsBetter universe roots other one → ⊥
+not_both universe roots one other x y = elim (three (length x.alike) (length y.alike)) [
+  | inl short ↦ parts_before universe roots one other x.alike (pin x.name x.greater) (pin x.name x.less) y.alike (pin y.name y.greater) (pin y.name y.less) x.below x.one_walk x.other_walk y.one_walk y.other_walk short
+  | inr h ↦ elim h [
+    | inl same ↦
+        let first : pin x.name x.greater ≡ pin y.name y.less =
+        one_walk universe roots.names one [] (x.alike ++ pin x.name x.greater ∷ []) (y.alike ++ pin y.name y.less ∷ []) x.one_walk.names y.other_walk.names x.one_walk.versions y.other_walk.versions (length x.alike)
+        (pin x.name x.greater) (pin y.name y.less) (slice_get_at_end x.alike (pin x.name x.greater) []) (ap (slice_get (y.alike ++ pin y.name y.less ∷ [])) same ∙ slice_get_at_end y.alike (pin y.name y.less) []) in
+        let second : pin x.name x.less ≡ pin y.name y.greater =
+        one_walk universe roots.names other [] (x.alike ++ pin x.name x.less ∷ []) (y.alike ++ pin y.name y.greater ∷ []) x.other_walk.names y.one_walk.names x.other_walk.versions y.one_walk.versions (length x.alike)
+        (pin x.name x.less) (pin y.name y.greater) (slice_get_at_end x.alike (pin x.name x.less) []) (ap (slice_get (y.alike ++ pin y.name y.greater ∷ [])) same ∙ slice_get_at_end y.alike (pin y.name y.greater) []) in
+        below_both x.less x.greater x.below
+        (subst (λ (z : Pin). IsBelow z.version x.less) (sym first) (subst (λ (z : Pin). IsBelow y.less z.version) (sym second) y.below))
+    | inr long ↦ parts_before universe roots other one y.alike (pin y.name y.greater) (pin y.name y.less) x.alike (pin x.name x.greater) (pin x.name x.less) y.below y.one_walk y.other_walk x.one_walk x.other_walk long
+  ]
+]
+
+pub best_none_better : BestIsNoneBetter
+best_none_better universe rules roots choice = (
+  λ best. (
+    best.solution,
+    λ other solution better. elim (best.best other solution) [
+      | inl same ↦ let own = subst (λ c. IsBetter universe roots c choice) same better in not_both universe roots choice choice own own
+      | inr worse ↦ not_both universe roots choice other worse better
+    ],
+  ),
+  λ h. record {
+    solution = h.0;
+    best = λ other solution. elim (one_better universe rules roots choice other h.0 solution) [
+      | inl same ↦ inl (sym same)
+      | inr r ↦ elim r [ inl better ↦ inr better | inr worse ↦ absurd (h.1 other solution worse) ]
+    ];
+  },
+)

@@ -1,10 +1,10 @@
 -- Laws of walks and of solutions.
-use Rattle.std.specs.Prelude.{◌≡◌, ◌⊎◌, List, [], ◌∷◌, ◌++◌}
+use Rattle.std.specs.Prelude.{◌≡◌, ◌↔◌, ◌⊎◌, List, [], ◌∷◌, ◌++◌}
 use Rattle.dep_solver.specs.declared.roots.Pin.{Pin}
 use Rattle.dep_solver.specs.declared.roots.Roots.{Roots}
 use Rattle.dep_solver.specs.declared.rules.EnvRules.{EnvRules}
 use Rattle.dep_solver.specs.declared.universe.Universe.{Universe}
-use Rattle.dep_solver.specs.Best.{IsBetter}
+use Rattle.dep_solver.specs.Best.{IsBest, IsBetter}
 use Rattle.dep_solver.specs.Names.{CookbookName}
 use Rattle.dep_solver.specs.Solutions.{Choice, IsSolution}
 use Rattle.dep_solver.specs.Walks.{IsWalk}
@@ -33,3 +33,13 @@ abbrev pub OneIsBetter : Type 0
 OneIsBetter =
     (universe : Universe) (rules : EnvRules) (roots : Roots) (one other : Choice) → IsSolution universe rules roots one → IsSolution universe rules roots other
     → (one ≡ other) ⊎ IsBetter universe roots one other ⊎ IsBetter universe roots other one
+
+-- no solution is better
+abbrev pub NoneIsBetter : Universe → EnvRules → Roots → Choice → Type 0
+NoneIsBetter universe rules roots choice = (other : Choice) → IsSolution universe rules roots other → ¬ (IsBetter universe roots other choice)
+
+-- the best solution is the one than which none is better
+abbrev pub BestIsNoneBetter : Type 0
+BestIsNoneBetter =
+    (universe : Universe) (rules : EnvRules) (roots : Roots) (choice : Choice)
+    → IsBest universe rules roots choice ↔ (IsSolution universe rules roots choice × NoneIsBetter universe rules roots choice)

@@ -14,7 +14,7 @@ mod solved;
 mod tests;
 mod universe;
 
-pub use laws::{one_is_better, places_fix_the_next, solutions_have_walks};
+pub use laws::{best_is_none_better, one_is_better, places_fix_the_next, solutions_have_walks};
 pub use no_solution::NoSolution;
 pub use roots::{Pin, Pins, Roots};
 pub use rules::EnvRules;
