@@ -1,5 +1,5 @@
 -- The releases that can be chosen, and the greatest of them.
-use Rattle.std.proofs.Common.{◌≡◌, ℕ, ◌+◌, ◌-◌, ◌<◌, ◌≤◌, ◌⊎◌, List, length, map, get_or, slice_get, Option, Some, Contains, arith, ap, refl, sym, subst, ◌∙◌, inl, inr}
+use Rattle.std.proofs.Common.{◌≡◌, ℕ, ◌+◌, ◌-◌, ◌<◌, ◌≤◌, ◌⊎◌, List, length, map, get_or, slice_get, Option, Some, Contains, arith, ap, refl, sym, subst, ◌∙◌, inl, inr, Bool, false}
 use Rattle.std.proofs.lemmas.Option.{same_Some, slice_get_read, slice_get_within}
 use Rattle.version_rules.specs.declared.needs.Need.{Need}
 use Rattle.version_rules.specs.declared.versions.Version.{Version}
@@ -8,7 +8,7 @@ use Rattle.dep_solver.specs.declared.rules.EnvRules.{EnvRules}
 use Rattle.dep_solver.specs.declared.universe.Release.{Release}
 use Rattle.dep_solver.specs.declared.universe.Universe.{Universe}
 use Rattle.dep_solver.specs.Names.{CookbookName}
-use Rattle.dep_solver.specs.Search.{CanMeet, IsChoosable, MeetsAll}
+use Rattle.dep_solver.specs.Search.{CanMeet, Flags, IsChoosable, MeetsAll, flags_of, is_set}
 use Rattle.dep_solver.specs.Solutions.{IsAllowed}
 use Rattle.dep_solver.specs.Universes.{releases_in}
 use Rattle.dep_solver.proofs.ListLemmas.{contains_map, map_contains}
@@ -30,15 +30,20 @@ module _ (universe : Universe) (rules : EnvRules) (roots : Roots) where
       let found = map_contains (λ (r : Release). r.version) releases version (subst (λ rs. Contains (map (λ (r : Release). r.version) rs) version) (sym are) allowed.released) in
       none found.0 found.1 (subst (λ v. MeetsAll rules roots name v) (sym found.2) (record { meets_pins = allowed.meets_pins; meets_rules = allowed.meets_rules }))
 
-  pub can_meet : (need : Need) (releases : List Release) (r : Release) → releases ≡ releases_in universe need.name → Contains releases r → IsChoosable rules roots need r.version → CanMeet universe rules roots need
-  can_meet need releases r are h choosable = record { version = r.version; allowed = as_allowed need.name releases r are h choosable.meets_all; meets = choosable.meets }
+  pub can_meet : (dead : Flags) (need : Need) (releases : List Release) (flags : List Bool) (k : ℕ) (r : Release) → releases ≡ releases_in universe need.name → flags ≡ flags_of universe.cookbooks dead need.name
+      → slice_get releases k ≡ Some r → (is_set flags k ≡ false) × IsChoosable rules roots need r.version → CanMeet universe rules roots dead need
+  can_meet dead need releases flags k r are set stands open' = record {
+    index = k;
+    release = r;
+    stands = ap (λ rs. slice_get rs k) (sym are) ∙ stands;
+    alive = ap (λ fs. is_set fs k) (sym set) ∙ open'.0;
+    choosable = open'.1;
+  }
 
-  pub cannot_meet : (need : Need) (releases : List Release) → releases ≡ releases_in universe need.name → ((r : Release) → Contains releases r → IsChoosable rules roots need r.version → ⊥)
-      → CanMeet universe rules roots need → ⊥
-  cannot_meet need releases are none can =
-      let allowed = can.allowed in
-      let found = map_contains (λ (r : Release). r.version) releases can.version (subst (λ rs. Contains (map (λ (r : Release). r.version) rs) can.version) (sym are) allowed.released) in
-      none found.0 found.1 (subst (λ v. IsChoosable rules roots need v) (sym found.2) (record { meets = can.meets; meets_all = record { meets_pins = allowed.meets_pins; meets_rules = allowed.meets_rules } }))
+  pub cannot_meet : (dead : Flags) (need : Need) (releases : List Release) (flags : List Bool) → releases ≡ releases_in universe need.name → flags ≡ flags_of universe.cookbooks dead need.name
+      → ((k : ℕ) (r : Release) → slice_get releases k ≡ Some r → (is_set flags k ≡ false) × IsChoosable rules roots need r.version → ⊥) → CanMeet universe rules roots dead need → ⊥
+  cannot_meet dead need releases flags are set none can =
+      none can.index can.release (ap (λ rs. slice_get rs can.index) are ∙ can.stands) (ap (λ fs. is_set fs can.index) set ∙ can.alive, can.choosable)
 
 module _ {A : Type 0} (P : A → Type 0) (xs : List A) (given_up : ℕ) where
   -- of the last so many, P holds of none but of those that were given up

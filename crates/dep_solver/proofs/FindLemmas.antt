@@ -1,5 +1,5 @@
 -- The cookbook of a name, found by halving.
-use Rattle.std.proofs.Common.{◌≡◌, ℕ, zero, suc, ◌+◌, ◌<◌, ◌≤◌, ◌⊎◌, inl, inr, Bool, true, false, cond, List, [], ◌∷◌, length, map, get_or, slice_get, find, Option, Some, None, HoldsAt, Less, Equal, Greater, Ordering, is_lt, arith, ap, refl, sym, subst, ◌∙◌, true≢false}
+use Rattle.std.proofs.Common.{◌≡◌, ℕ, zero, suc, ◌+◌, ◌<◌, ◌≤◌, ◌⊎◌, inl, inr, Bool, true, false, cond, List, [], ◌∷◌, length, map, get_or, slice_get, find, Option, Some, None, HoldsAt, Less, Equal, Greater, Ordering, is_lt, arith, ap, refl, sym, subst, ◌∙◌, true≢false, unwrap_or}
 use Rattle.std.proofs.lemmas.Cmp.{tied_itself}
 use Rattle.std.proofs.lemmas.List.Sorted.{searchable_from_sorted}
 use Rattle.std.proofs.lemmas.Map.Keys.{sorted_head, sorted_tail}
@@ -11,6 +11,7 @@ use Rattle.std.specs.Ordering.{ordering_index, ordering_reverse}
 use Rattle.dep_solver.specs.declared.universe.Cookbook.{Cookbook}
 use Rattle.dep_solver.specs.declared.universe.Universe.{Universe}
 use Rattle.dep_solver.specs.Universes.{cookbook_in}
+use Rattle.dep_solver.specs.Search.{Flags, flags_of}
 use Rattle.dep_solver.specs.Names.{CookbookName, name_cmp, same_name}
 use Rattle.dep_solver.proofs.ChoiceLemmas.{names_apart}
 use Rattle.dep_solver.proofs.OrderLemmas.{less_from_sorted, three}
@@ -66,21 +67,56 @@ rising cookbooks name up =
     ∙ reversed (name_cmp (get_or cookbooks k d).name (get_or cookbooks (k + 1) d).name) (less_from_sorted (λ (c : Cookbook). c.name) name_cmp cookbooks k d below up))
 
 -- where the name has its place between two cookbooks, none has it
-pub not_found : (cookbooks : List Cookbook) (i : ℕ) (name : CookbookName) → IsStrictlySortedBy name_cmp (map (λ (c : Cookbook). c.name) cookbooks)
+none_same : (cookbooks : List Cookbook) (i : ℕ) (name : CookbookName) → IsStrictlySortedBy name_cmp (map (λ (c : Cookbook). c.name) cookbooks)
     → (IsNonDecreasingBy (λ (c : Cookbook). ordering_index (name_cmp c.name name)) cookbooks → IsPartitionPoint (λ (c : Cookbook). name_cmp c.name name ≡ Less) (λ (c : Cookbook). name_cmp c.name name ≡ Greater) cookbooks i)
-    → None ≡ find (λ (x : Cookbook). same_name x.name name) cookbooks
-not_found cookbooks i name up parts =
+    → (k : ℕ) (d : Cookbook) → k < length cookbooks → same_name (get_or cookbooks k d).name name ≡ false
+none_same cookbooks i name up parts k d h =
     let point = parts (rising cookbooks name up) in
-    sym (find_none cookbooks name (λ k d h. elim (lt_or k i) [
+    elim (lt_or k i) [
       | inl below ↦ same_off (get_or cookbooks k d).name name Less (point.0 k d (omega arith) below) (λ e. cc)
       | inr above ↦ same_off (get_or cookbooks k d).name name Greater (point.1 k d above h) (λ e. cc)
-    ]))
+    ]
   where
     lt_or : (k i : ℕ) → (k < i) ⊎ (i ≤ k)
     lt_or k i = elim (three k i) [
       | inl h ↦ inl h
       | inr h ↦ elim h [ inl e ↦ inr (omega arith) | inr g ↦ inr (omega arith) ]
     ]
+
+-- ---- flags
+
+flags_at : (cookbooks : List Cookbook) (flags : Flags) (k : ℕ) (c : Cookbook) → IsStrictlySortedBy name_cmp (map (λ (c : Cookbook). c.name) cookbooks) → slice_get cookbooks k ≡ Some c
+    → flags_of cookbooks flags c.name ≡ unwrap_or (slice_get flags k) []
+flags_at [] flags k c up e = absurd (none-some c e)
+flags_at (x ∷ cookbooks) [] k c up e = refl
+flags_at (x ∷ cookbooks) (f ∷ flags) zero c up e =
+    ap (λ b. cond b f (flags_of cookbooks flags c.name)) (same_from_name x.name c.name (ap (λ (z : Cookbook). z.name) (same_Some x c e)))
+flags_at (x ∷ cookbooks) (f ∷ flags) (suc k) c up e =
+    let less = all_at (λ n. name_cmp x.name n ≡ Less) cookbooks k c (sorted_head name_cmp x.name (map (λ (c : Cookbook). c.name) cookbooks) up) e in
+    ap (λ b. cond b f (flags_of cookbooks flags c.name)) (same_off x.name c.name Less less (λ h. cc))
+    ∙ flags_at cookbooks flags k c (sorted_tail name_cmp x.name (map (λ (c : Cookbook). c.name) cookbooks) up) e
+
+flags_none : (cookbooks : List Cookbook) (flags : Flags) (name : CookbookName) → ((k : ℕ) (d : Cookbook) → k < length cookbooks → same_name (get_or cookbooks k d).name name ≡ false) → flags_of cookbooks flags name ≡ []
+flags_none [] flags name none = refl
+flags_none (c ∷ cookbooks) [] name none = refl
+flags_none (c ∷ cookbooks) (f ∷ flags) name none =
+    ap (λ b. cond b f (flags_of cookbooks flags name)) (none 0 c (omega arith)) ∙ flags_none cookbooks flags name (λ k d h. none (suc k) d (omega arith))
+
+pub flags_found_in : (universe : Universe) (flags : Flags) (cookbooks : List Cookbook) → cookbooks ≡ universe.cookbooks → (k : ℕ) (name : CookbookName) → k < length cookbooks
+    → HoldsAt (λ (y : Cookbook). name_cmp y.name name ≡ Equal) cookbooks k → (found : List Bool) → found ≡ unwrap_or (slice_get flags k) [] → found ≡ flags_of universe.cookbooks flags name
+flags_found_in universe flags [] are k name within ties found is = absurd (omega arith)
+flags_found_in universe flags (x ∷ rest) are k name within ties found is =
+    let c = get_or (x ∷ rest) k x in
+    let own : c.name ≡ name = names_apart c.name name (ties x) in
+    is ∙ sym (flags_at (x ∷ rest) flags k c (subst (λ (cs : List Cookbook). IsStrictlySortedBy name_cmp (map (λ (c : Cookbook). c.name) cs)) (sym are) universe.in_order) (slice_get-get_or (x ∷ rest) k x within))
+    ∙ ap (flags_of (x ∷ rest) flags) own ∙ ap (λ cs. flags_of cs flags name) are
+
+pub flags_missing_in : (universe : Universe) (flags : Flags) (cookbooks : List Cookbook) → cookbooks ≡ universe.cookbooks → (i : ℕ) (name : CookbookName)
+    → (IsNonDecreasingBy (λ (c : Cookbook). ordering_index (name_cmp c.name name)) cookbooks → IsPartitionPoint (λ (c : Cookbook). name_cmp c.name name ≡ Less) (λ (c : Cookbook). name_cmp c.name name ≡ Greater) cookbooks i)
+    → [] ≡ flags_of universe.cookbooks flags name
+flags_missing_in universe flags cookbooks are i name parts =
+    sym (flags_none cookbooks flags name (none_same cookbooks i name (subst (λ (cs : List Cookbook). IsStrictlySortedBy name_cmp (map (λ (c : Cookbook). c.name) cs)) (sym are) universe.in_order) parts))
+    ∙ ap (λ cs. flags_of cs flags name) are
 
 -- the same of the list of a universe's cookbooks
 pub found_in : (universe : Universe) (cookbooks : List Cookbook) → cookbooks ≡ universe.cookbooks → (k : ℕ) (c : Cookbook) (name : CookbookName) → k < length cookbooks → c ≡ get_or cookbooks k c
@@ -93,5 +129,5 @@ pub not_found_in : (universe : Universe) (cookbooks : List Cookbook) → cookboo
     → (IsNonDecreasingBy (λ (c : Cookbook). ordering_index (name_cmp c.name name)) cookbooks → IsPartitionPoint (λ (c : Cookbook). name_cmp c.name name ≡ Less) (λ (c : Cookbook). name_cmp c.name name ≡ Greater) cookbooks i)
     → None ≡ cookbook_in universe name
 not_found_in universe cookbooks are i name parts =
-    not_found cookbooks i name (subst (λ (cs : List Cookbook). IsStrictlySortedBy name_cmp (map (λ (c : Cookbook). c.name) cs)) (sym are) universe.in_order) parts
+    sym (find_none cookbooks name (none_same cookbooks i name (subst (λ (cs : List Cookbook). IsStrictlySortedBy name_cmp (map (λ (c : Cookbook). c.name) cs)) (sym are) universe.in_order) parts))
     ∙ ap (find (λ (x : Cookbook). same_name x.name name)) are

@@ -15,4 +15,5 @@ pub mod RefusalLemmas
 pub mod DistinctLemmas
 pub mod SolvedLemmas
 pub mod FindLemmas
+pub mod DeadLemmas
 pub mod LawLemmas

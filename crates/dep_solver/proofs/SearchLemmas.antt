@@ -1,5 +1,5 @@
 -- The search: what it has done at a list of places, and that each step keeps this.
-use Rattle.std.proofs.Common.{◌≡◌, ℕ, zero, suc, ◌+◌, ◌<◌, ◌≤◌, ◌⊎◌, List, [], ◌∷◌, ◌++◌, length, map, slice_get, Option, Some, None, IsSome, Contains, arith, ap, refl, sym, subst, ◌∙◌, inl, inr, append_assoc, append-nil, true≢false}
+use Rattle.std.proofs.Common.{◌≡◌, ℕ, zero, suc, ◌+◌, ◌<◌, ◌≤◌, ◌⊎◌, List, [], ◌∷◌, ◌++◌, length, map, slice_get, Option, Some, None, IsSome, Contains, arith, ap, refl, sym, subst, ◌∙◌, inl, inr, append_assoc, append-nil, true≢false, Bool, true, false}
 use Rattle.std.proofs.lemmas.List.Elements.{Contains-append_left, Contains-append_right, Contains-push, Contains-push_cases}
 use Rattle.std.proofs.lemmas.Option.{none-some, same_Some, slice_get_within}
 use Rattle.std.specs.FinMap as finite
@@ -13,7 +13,7 @@ use Rattle.dep_solver.specs.declared.rules.EnvRules.{EnvRules}
 use Rattle.dep_solver.specs.declared.universe.Release.{Release}
 use Rattle.dep_solver.specs.declared.universe.Universe.{Universe}
 use Rattle.dep_solver.specs.Names.{CookbookName}
-use Rattle.dep_solver.specs.Search.{CanMeet}
+use Rattle.dep_solver.specs.Search.{AreNeverChosen, CanMeet, Flags, IsChoosable, flags_of, is_set}
 use Rattle.dep_solver.specs.Solutions.{Choice, IsAllowed, IsMet, IsReached, IsSolution}
 use Rattle.dep_solver.specs.Universes.{needs_in, releases_in}
 use Rattle.dep_solver.specs.Walks.{Begins, Follow, Holds, next, with_places}
@@ -32,13 +32,13 @@ met_by choice need version met e = subst (λ v. Meets v need.constraint) (same_S
 
 module _ (universe : Universe) (rules : EnvRules) (roots : Roots) where
   -- a release of a name goes with the places
-  pub record Goes (places : List Pin) (name : CookbookName) (release : Release) : Type 0 where
+  pub record Goes (dead : Flags) (places : List Pin) (name : CookbookName) (release : Release) : Type 0 where
     pub goes_with_pins : (pin : Pin) → Contains roots.pins pin → pin.name ≡ name → release.version ≡ pin.version
     pub goes_with_rules : (rule : Need) → Contains rules.rules rule → rule.name ≡ name → Meets release.version rule.constraint
     pub goes_with_places : (place : Pin) → Contains places place → (need : Need) → Contains (needs_in universe place.name place.version) need → need.name ≡ name → Meets release.version need.constraint
     pub goes_with_itself : (need : Need) → Contains release.needs need → need.name ≡ name → Meets release.version need.constraint
     pub places_go : (need : Need) → Contains release.needs need → (place : Pin) → Contains places place → place.name ≡ need.name → Meets place.version need.constraint
-    pub can_be_met : (need : Need) → Contains release.needs need → CanMeet universe rules roots need
+    pub can_be_met : (need : Need) → Contains release.needs need → CanMeet universe rules roots dead need
 
   -- the places are a walk's, each version is allowed, and no need of one is broken by another
   pub record Sound (places : List Pin) : Type 0 where
@@ -50,9 +50,9 @@ module _ (universe : Universe) (rules : EnvRules) (roots : Roots) where
   pub sound_none : Sound []
   sound_none = record { follow = tt; allowed = λ p h. absurd (nowhere p h); unbroken = λ p h n k q l e. absurd (nowhere p h) }
 
-  pub sound_push : (places : List Pin) (p : Pin) (release : Release) (index : ℕ) → Sound places → next universe roots.names places ≡ Some p.name
-      → slice_get (releases_in universe p.name) index ≡ Some release → release.version ≡ p.version → Goes places p.name release → Sound (places ++ p ∷ [])
-  sound_push places p release index sound at stands is goes =
+  pub sound_push : (dead : Flags) (places : List Pin) (p : Pin) (release : Release) (index : ℕ) → Sound places → next universe roots.names places ≡ Some p.name
+      → slice_get (releases_in universe p.name) index ≡ Some release → release.version ≡ p.version → Goes dead places p.name release → Sound (places ++ p ∷ [])
+  sound_push dead places p release index sound at stands is goes =
       let needs : needs_in universe p.name p.version ≡ release.needs = ap (needs_in universe p.name) (sym is) ∙ needs_at universe p.name index release stands in
       record {
         follow = Follow-push universe roots.names [] places p sound.follow at;
@@ -85,10 +85,28 @@ module _ (universe : Universe) (rules : EnvRules) (roots : Roots) where
     unbroken = λ p h n k q l e. sound.unbroken p (Contains-append_left front rest p h) n k q (Contains-append_left front rest q l) e;
   }
 
+  -- a need that a solution meets has a version that isn't flagged
+  pub solution_can : (dead : Flags) → AreNeverChosen universe rules roots dead → (choice : Choice) (need : Need) → IsSolution universe rules roots choice → IsMet choice need → CanMeet universe rules roots dead need
+  solution_can dead never choice need solution met =
+      let all = solution.allowed need.name met.0 met.1 in
+      let found = released_at universe need.name met.0 all.released in
+      record {
+        index = found.0;
+        release = found.1.release;
+        stands = found.1.stands;
+        alive = by found.0 found.1.release found.1.stands (met.1 ∙ ap Some (sym found.1.is)) (is_set (flags_of universe.cookbooks dead need.name) found.0) refl;
+        choosable = subst (λ v. IsChoosable rules roots need v) (sym found.1.is) (record { meets = met.2; meets_all = record { meets_pins = all.meets_pins; meets_rules = all.meets_rules } });
+      }
+    where
+      by : (k : ℕ) (r : Release) → slice_get (releases_in universe need.name) k ≡ Some r → finite.get choice need.name ≡ Some r.version → (b : Bool) → is_set (flags_of universe.cookbooks dead need.name) k ≡ b
+          → is_set (flags_of universe.cookbooks dead need.name) k ≡ false
+      by k r stands has true is = absurd (never need.name k r stands is choice solution has)
+      by k r stands has false is = is
+
   -- what a solution's walk begins with goes with its next release
-  pub solution_fits : (choice : Choice) (places : List Pin) (name : CookbookName) (release : Release) (index : ℕ) → IsSolution universe rules roots choice → Holds choice places
-      → finite.get choice name ≡ Some release.version → slice_get (releases_in universe name) index ≡ Some release → Goes places name release
-  solution_fits choice places name release index solution holds has stands =
+  pub solution_fits : (dead : Flags) → AreNeverChosen universe rules roots dead → (choice : Choice) (places : List Pin) (name : CookbookName) (release : Release) (index : ℕ) → IsSolution universe rules roots choice → Holds choice places
+      → finite.get choice name ≡ Some release.version → slice_get (releases_in universe name) index ≡ Some release → Goes dead places name release
+  solution_fits dead never choice places name release index solution holds has stands =
       let needs = needs_at universe name index release stands in
       let own : (need : Need) → Contains release.needs need → IsMet choice need = λ need h. solution.meets_needs name release.version has need (subst (λ ns. Contains ns need) (sym needs) h) in
       let all = solution.allowed name release.version has in
@@ -98,7 +116,7 @@ module _ (universe : Universe) (rules : EnvRules) (roots : Roots) where
         goes_with_places = λ p h need n e. met_by choice need release.version (solution.meets_needs p.name p.version (holds p h) need n) (ap (finite.get choice) e ∙ has);
         goes_with_itself = λ need n e. met_by choice need release.version (own need n) (ap (finite.get choice) e ∙ has);
         places_go = λ need n p h e. met_by choice need p.version (own need n) (ap (finite.get choice) (sym e) ∙ holds p h);
-        can_be_met = λ need n. let met = own need n in record { version = met.0; allowed = solution.allowed need.name met.0 met.1; meets = met.2 };
+        can_be_met = λ need n. solution_can dead never choice need solution (own need n);
       }
 
   -- a solution has the next name
@@ -178,12 +196,12 @@ module _ (universe : Universe) (rules : EnvRules) (roots : Roots) where
     walk = h.walk;
   }
 
-  pub search_chooses : (places : List Pin) (given_up : ℕ) (p : Pin) (release : Release) (index : ℕ) → HasSearched places given_up → next universe roots.names places ≡ Some p.name
+  pub search_chooses : (dead : Flags) → AreNeverChosen universe rules roots dead → (places : List Pin) (given_up : ℕ) (p : Pin) (release : Release) (index : ℕ) → HasSearched places given_up → next universe roots.names places ≡ Some p.name
       → slice_get (releases_in universe p.name) index ≡ Some release → release.version ≡ p.version
-      → ((other : ℕ) (r : Release) → index < other → other + given_up < length (releases_in universe p.name) → slice_get (releases_in universe p.name) other ≡ Some r → Goes places p.name r → ⊥)
+      → ((other : ℕ) (r : Release) → index < other → other + given_up < length (releases_in universe p.name) → slice_get (releases_in universe p.name) other ≡ Some r → Goes dead places p.name r → ⊥)
       → HasSearched (places ++ p ∷ []) 0
   unfolding HasSearched
-  search_chooses places given_up p release index searched at stands is greater choice solution = elim (searched choice solution) [
+  search_chooses dead never places given_up p release index searched at stands is greater choice solution = elim (searched choice solution) [
     | inr passed ↦ inr (passed_push places p choice passed)
     | inl left ↦
         let has = held choice places p.name solution left.begins.versions at in
@@ -207,29 +225,29 @@ module _ (universe : Universe) (rules : EnvRules) (roots : Roots) where
                   untried = λ name v _ e. untried_at_first choice name v solution e;
                 })
             | inr higher ↦ absurd (greater found.index found.at.release higher found.left found.at.stands
-                (solution_fits choice places p.name found.at.release found.index solution left.begins.versions (has.1 ∙ ap Some (sym found.at.is)) found.at.stands))
+                (solution_fits dead never choice places p.name found.at.release found.index solution left.begins.versions (has.1 ∙ ap Some (sym found.at.is)) found.at.stands))
           ]
         ]
   ]
 
   -- where no release goes, no solution is left
-  none_left : (places : List Pin) (given_up : ℕ) (name : CookbookName) (choice : Choice) → next universe roots.names places ≡ Some name
-      → ((other : ℕ) (r : Release) → other + given_up < length (releases_in universe name) → slice_get (releases_in universe name) other ≡ Some r → Goes places name r → ⊥)
+  none_left : (dead : Flags) → AreNeverChosen universe rules roots dead → (places : List Pin) (given_up : ℕ) (name : CookbookName) (choice : Choice) → next universe roots.names places ≡ Some name
+      → ((other : ℕ) (r : Release) → other + given_up < length (releases_in universe name) → slice_get (releases_in universe name) other ≡ Some r → Goes dead places name r → ⊥)
       → IsSolution universe rules roots choice → IsLeft places given_up choice → ⊥
-  none_left places given_up name choice at none solution left =
+  none_left dead never places given_up name choice at none solution left =
       let has = held choice places name solution left.begins.versions at in
       let found = left.untried name has.0 at has.1 in
       none found.index found.at.release found.left found.at.stands
-      (solution_fits choice places name found.at.release found.index solution left.begins.versions (has.1 ∙ ap Some (sym found.at.is)) found.at.stands)
+      (solution_fits dead never choice places name found.at.release found.index solution left.begins.versions (has.1 ∙ ap Some (sym found.at.is)) found.at.stands)
 
-  pub search_gives_up : (front : List Pin) (p : Pin) (release : Release) (index tried given_up : ℕ) (name : CookbookName) → HasSearched (front ++ p ∷ []) given_up
+  pub search_gives_up : (dead : Flags) → AreNeverChosen universe rules roots dead → (front : List Pin) (p : Pin) (release : Release) (index tried given_up : ℕ) (name : CookbookName) → HasSearched (front ++ p ∷ []) given_up
       → Follow universe roots.names [] (front ++ p ∷ []) → slice_get (releases_in universe p.name) index ≡ Some release → release.version ≡ p.version → index + tried ≡ length (releases_in universe p.name)
       → next universe roots.names (front ++ p ∷ []) ≡ Some name
-      → ((other : ℕ) (r : Release) → other + given_up < length (releases_in universe name) → slice_get (releases_in universe name) other ≡ Some r → Goes (front ++ p ∷ []) name r → ⊥)
+      → ((other : ℕ) (r : Release) → other + given_up < length (releases_in universe name) → slice_get (releases_in universe name) other ≡ Some r → Goes dead (front ++ p ∷ []) name r → ⊥)
       → HasSearched front tried
   unfolding HasSearched
-  search_gives_up front p release index tried given_up name searched follow stands is counted at none choice solution = elim (searched choice solution) [
-    | inl left ↦ absurd (none_left (front ++ p ∷ []) given_up name choice at none solution left)
+  search_gives_up dead never front p release index tried given_up name searched follow stands is counted at none choice solution = elim (searched choice solution) [
+    | inl left ↦ absurd (none_left dead never (front ++ p ∷ []) given_up name choice at none solution left)
     | inr passed ↦ elim (split_cases front p passed.alike passed.place passed.rest passed.split) [
       | inr h ↦ inr (record { alike = passed.alike; place = passed.place; rest = h.0; less = passed.less; split = h.1; below = passed.below; walk = passed.walk })
       | inl h ↦
@@ -257,11 +275,11 @@ module _ (universe : Universe) (rules : EnvRules) (roots : Roots) where
   nothing_split [] p rest e = cc
   nothing_split (a ∷ alike) p rest e = cc
 
-  pub search_ends : (given_up : ℕ) (name : CookbookName) → HasSearched [] given_up → next universe roots.names [] ≡ Some name
-      → ((other : ℕ) (r : Release) → other + given_up < length (releases_in universe name) → slice_get (releases_in universe name) other ≡ Some r → Goes [] name r → ⊥)
+  pub search_ends : (dead : Flags) → AreNeverChosen universe rules roots dead → (given_up : ℕ) (name : CookbookName) → HasSearched [] given_up → next universe roots.names [] ≡ Some name
+      → ((other : ℕ) (r : Release) → other + given_up < length (releases_in universe name) → slice_get (releases_in universe name) other ≡ Some r → Goes dead [] name r → ⊥)
       → (choice : Choice) → IsSolution universe rules roots choice → ⊥
   unfolding HasSearched
-  search_ends given_up name searched at none choice solution = elim (searched choice solution) [
-    | inl left ↦ none_left [] given_up name choice at none solution left
+  search_ends dead never given_up name searched at none choice solution = elim (searched choice solution) [
+    | inl left ↦ none_left dead never [] given_up name choice at none solution left
     | inr passed ↦ nothing_split passed.alike passed.place passed.rest passed.split
   ]

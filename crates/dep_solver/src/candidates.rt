@@ -7,7 +7,7 @@ ghost use Rattle.version_rules.specs.declared.needs.Need.{Need};
 ghost use Rattle.dep_solver.specs.declared.roots.Pin.{Pin};
 ghost use Rattle.dep_solver.specs.declared.search.Place.{Place};
 
-use crate::finding::releases_in;
+use crate::finding::{Flags, flags_in, is_set, releases_in};
 use crate::roots::{Pin, Roots};
 use crate::rules::EnvRules;
 use crate::search::Place;
@@ -21,6 +21,7 @@ pub(crate) fn greatest<'a>(
     universe: &Universe,
     rules: &EnvRules,
     roots: &Roots,
+    dead: &Flags,
     places: &[Place<'_>],
     name: &'a Name,
     releases: &'a [Release],
@@ -28,14 +29,14 @@ pub(crate) fn greatest<'a>(
     reached: usize,
 ) -> Option<Place<'a>>
     ensures { MatchOption result
-        (NoneFits universe.now rules.now roots.now places.now name.now releases.now given_up)
-        (IsGreatest universe.now rules.now roots.now places.now name.now releases.now given_up reached) }
+        (NoneFits universe.now rules.now roots.now dead.now places.now name.now releases.now given_up)
+        (IsGreatest universe.now rules.now roots.now dead.now places.now name.now releases.now given_up reached) }
 {
     let mut tried = given_up;
     while tried < releases.len() {
         let release = &releases[releases.len() - 1 - tried];
         tried += 1;
-        if fits(universe, rules, roots, places, name, release) {
+        if fits(universe, rules, roots, dead, places, name, release) {
             return Some(Place {
                 name,
                 release,
@@ -51,11 +52,12 @@ fn fits(
     universe: &Universe,
     rules: &EnvRules,
     roots: &Roots,
+    dead: &Flags,
     places: &[Place<'_>],
     name: &Name,
     release: &Release,
 ) -> bool
-    ensures { IsTrue result ↔ Fits universe.now rules.now roots.now places.now name.now release.now }
+    ensures { IsTrue result ↔ Fits universe.now rules.now roots.now dead.now places.now name.now release.now }
 {
     let version = &release.version;
     let needs = release.needs.as_slice();
@@ -74,7 +76,7 @@ fn fits(
     if !do_places_meet(needs, places) {
         return false;
     }
-    can_be_met(universe, rules, roots, needs)
+    can_be_met(universe, rules, roots, dead, needs)
 }
 
 // The version is the one of each pin on the name.
@@ -154,28 +156,60 @@ fn does_meet(need: &Need, place: &Place<'_>) -> bool
     *place.name != need.name || meets(&place.release.version, &need.constraint)
 }
 
-// Each need has a version that can be chosen.
-fn can_be_met(universe: &Universe, rules: &EnvRules, roots: &Roots, needs: &[Need]) -> bool
-    ensures { IsTrue result ↔ ((need : Need) → Contains needs.now need → CanMeet universe.now rules.now roots.now need) }
+/// Whether each need has a version that can be chosen and isn't flagged.
+pub(crate) fn can_be_met(
+    universe: &Universe,
+    rules: &EnvRules,
+    roots: &Roots,
+    dead: &Flags,
+    needs: &[Need],
+) -> bool
+    ensures { IsTrue result ↔ ((need : Need) → Contains needs.now need → CanMeet universe.now rules.now roots.now dead.now need) }
 {
     for need in needs {
-        if !has_version(universe, rules, roots, need) {
+        if !has_version(universe, rules, roots, dead, need) {
             return false;
         }
     }
     true
 }
 
-fn has_version(universe: &Universe, rules: &EnvRules, roots: &Roots, need: &Need) -> bool
-    ensures { IsTrue result ↔ CanMeet universe.now rules.now roots.now need.now }
+fn has_version(
+    universe: &Universe,
+    rules: &EnvRules,
+    roots: &Roots,
+    dead: &Flags,
+    need: &Need,
+) -> bool
+    ensures { IsTrue result ↔ CanMeet universe.now rules.now roots.now dead.now need.now }
 {
     let releases = releases_in(universe, &need.name);
-    for release in releases {
-        if is_choosable(rules, roots, need, &release.version) {
+    let flags = flags_in(universe, dead, &need.name);
+    for (index, release) in releases.iter().enumerate() {
+        if is_open(rules, roots, need, flags, index, &release.version) {
             return true;
         }
     }
     false
+}
+
+ghost use Rattle.dep_solver.specs.Search.{is_set};
+ghost use Rattle.std.specs.Prelude.{false};
+
+fn is_open(
+    rules: &EnvRules,
+    roots: &Roots,
+    need: &Need,
+    flags: &[bool],
+    index: usize,
+    version: &Version,
+) -> bool
+    ensures { IsTrue result ↔ ((is_set flags.now index ≡ false) × IsChoosable rules.now roots.now need.now version.now) }
+{
+    if is_set(flags, index) {
+        return false;
+    }
+    is_choosable(rules, roots, need, version)
 }
 
 ghost use Rattle.dep_solver.specs.Search.{IsChoosable};

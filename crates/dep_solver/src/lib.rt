@@ -2,6 +2,7 @@
 #![tactic(auto)]
 
 mod candidates;
+mod dead;
 mod finding;
 mod laws;
 mod no_solution;

@@ -3,7 +3,8 @@ ghost use Rattle.std.specs.Prelude.{◌≡◌, IfOk};
 ghost use Rattle.dep_solver.specs.Search.{Finds};
 
 use crate::candidates::greatest;
-use crate::finding::releases_in;
+use crate::dead::never_chosen;
+use crate::finding::{Flags, releases_in};
 use crate::roots::Roots;
 use crate::rules::EnvRules;
 use crate::universe::{Release, Universe};
@@ -30,11 +31,14 @@ pub(crate) struct Search<'a> {
     pub(crate) given_up: usize,
 }
 
-ghost use Rattle.std.specs.Prelude.{OnOk, Some, None, slice_get, length, option_map, MatchOption, MatchBool, []};
-ghost use Rattle.dep_solver.specs.Search.{Begins, Chooses, GivesUp, IsGreatest, NoneFits, seen};
+ghost use Rattle.std.specs.Prelude.{OnOk, IfSome, map, Some, None, slice_get, length, option_map, MatchOption, MatchBool, []};
+ghost use Rattle.dep_solver.specs.Search.{AreNeverChosen, Begins, Chooses, FindsBest, pin_of, GivesUp, IsGreatest, NoneFits, seen};
 ghost use Rattle.dep_solver.specs.Universes.{releases_in};
 
 /// The places of the best solution's walk, or `None` exactly where there is no solution.
+///
+/// Where the greatest releases go together, they are taken one after the other. Else it is found out first which releases
+/// are in no solution since what they need isn't there.
 pub(crate) fn best_places<'a>(
     alloc: Global,
     universe: &'a Universe,
@@ -43,9 +47,48 @@ pub(crate) fn best_places<'a>(
 ) -> Result<Option<Vec<Place<'a>>>, NoMemory>
     ensures { IfOk result (Finds universe.now rules.now roots.now) }
 {
+    if let Some(places) = straight_walk(alloc, universe, rules, roots)? {
+        return Ok(Some(places));
+    }
+    let dead = never_chosen(alloc, universe, rules, roots)?;
+    searched(alloc, universe, rules, roots, &dead)
+}
+
+/// The places of the best solution's walk where no choice had to be given up.
+fn straight_walk<'a>(
+    alloc: Global,
+    universe: &'a Universe,
+    rules: &EnvRules,
+    roots: &'a Roots,
+) -> Result<Option<Vec<Place<'a>>>, NoMemory>
+    ensures { IfOk result (λ found. IfSome found (λ places. FindsBest universe.now rules.now roots.now (map pin_of places.items))) }
+{
+    let dead = Flags::new(alloc);
     let mut search = Search::begin(alloc, roots)?;
     while let Some(name) = search.next_name() {
-        if let Some(place) = search.greatest_place(universe, rules, roots, name) {
+        let Some(place) = search.greatest_place(universe, rules, roots, &dead, name) else {
+            return Ok(None);
+        };
+        search.choose(place)?;
+    }
+    Ok(Some(search.places))
+}
+
+/// The places of the best solution's walk, or `None` exactly where there is no solution, found without the releases that
+/// are flagged, which no solution has.
+fn searched<'a>(
+    alloc: Global,
+    universe: &'a Universe,
+    rules: &EnvRules,
+    roots: &'a Roots,
+    dead: &Flags,
+) -> Result<Option<Vec<Place<'a>>>, NoMemory>
+    requires { AreNeverChosen universe.now rules.now roots.now dead.now }
+    ensures { IfOk result (Finds universe.now rules.now roots.now) }
+{
+    let mut search = Search::begin(alloc, roots)?;
+    while let Some(name) = search.next_name() {
+        if let Some(place) = search.greatest_place(universe, rules, roots, dead, name) {
             search.choose(place)?;
         } else if !search.give_up() {
             return Ok(None);
@@ -78,11 +121,12 @@ impl<'a> Search<'a> {
         universe: &'a Universe,
         rules: &EnvRules,
         roots: &Roots,
+        dead: &Flags,
         name: &'a Name,
     ) -> Option<Place<'a>>
         ensures { MatchOption result
-            (NoneFits universe.now rules.now roots.now self.now.places.items name.now (releases_in universe.now name.now) self.now.given_up)
-            (IsGreatest universe.now rules.now roots.now self.now.places.items name.now (releases_in universe.now name.now) self.now.given_up (length (seen self.now.names.items))) }
+            (NoneFits universe.now rules.now roots.now dead.now self.now.places.items name.now (releases_in universe.now name.now) self.now.given_up)
+            (IsGreatest universe.now rules.now roots.now dead.now self.now.places.items name.now (releases_in universe.now name.now) self.now.given_up (length (seen self.now.names.items))) }
     {
         let releases = releases_in(universe, name);
         let places = self.places.as_slice();
@@ -91,6 +135,7 @@ impl<'a> Search<'a> {
             universe,
             rules,
             roots,
+            dead,
             places,
             name,
             releases,

@@ -10,7 +10,7 @@ loop-need-init c = λ x h. absurd (nowhere x h)
 
 pub loop-need-preserved : goal.loop-need-preserved
 loop-need-preserved c =
-    each_more (λ (need : Need). CanMeet c.args.universe.now c.args.rules.now c.args.roots.now need) c.args.needs.now c.loop-need.need-index c.need-item.result
+    each_more (λ (need : Need). CanMeet c.args.universe.now c.args.rules.now c.args.roots.now c.args.dead.now need) c.args.needs.now c.loop-need.need-index c.need-item.result
     c.loop-need-test.true c.need-item.is c.loop-need.invariant (c.has_version.ensures.0 c.if-not-has_version.false)
 
 pub returns-then-not-has_version : goal.returns-then-not-has_version
@@ -20,4 +20,4 @@ returns-then-not-has_version c = (
 )
 
 pub returns : goal.returns
-returns c = (λ _. each_all (λ (need : Need). CanMeet c.args.universe.now c.args.rules.now c.args.roots.now need) c.args.needs.now c.loop-need.need-index c.loop-need-test.false c.loop-need.invariant, λ _. refl)
+returns c = (λ _. each_all (λ (need : Need). CanMeet c.args.universe.now c.args.rules.now c.args.roots.now c.args.dead.now need) c.args.needs.now c.loop-need.need-index c.loop-need-test.false c.loop-need.invariant, λ _. refl)

@@ -6,4 +6,4 @@ use Rattle.dep_solver.proofs.EachLemmas.{EachBefore}
 use Rattle.dep_solver.proofs.candidates.can_be_met.Given as goal
 
 abbrev pub invariant-loop-need : goal.invariant-loop-need
-invariant-loop-need l = EachBefore (λ (need : Need). CanMeet l.universe l.rules l.roots need) l.needs l.need-index
+invariant-loop-need l = EachBefore (λ (need : Need). CanMeet l.universe l.rules l.roots l.dead need) l.needs l.need-index

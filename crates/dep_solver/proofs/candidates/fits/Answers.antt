@@ -44,7 +44,7 @@ returns c = (
     meets_places = c.are_places_met.ensures.0 c.if-not-are_places_met.false;
     meets_itself = subst (λ (ns : List Need). (need : Need) → Contains ns need → need.name ≡ c.args.name.now → Meets c.args.release.now.version need.constraint) c.as_slice-needs.ensures (c.are_needs_met-2.ensures.0 c.if-not-are_needs_met-2.false);
     places_meet = subst (λ (ns : List Need). (need : Need) → Contains ns need → (place : Place) → Contains c.args.places.now place → place.name.now ≡ need.name → Meets place.release.now.version need.constraint) c.as_slice-needs.ensures (c.do_places_meet.ensures.0 c.if-not-do_places_meet.false);
-    needs_can_be_met = subst (λ (ns : List Need). (need : Need) → Contains ns need → CanMeet c.args.universe.now c.args.rules.now c.args.roots.now need) c.as_slice-needs.ensures (c.can_be_met.ensures.0 h);
+    needs_can_be_met = subst (λ (ns : List Need). (need : Need) → Contains ns need → CanMeet c.args.universe.now c.args.rules.now c.args.roots.now c.args.dead.now need) c.as_slice-needs.ensures (c.can_be_met.ensures.0 h);
   },
-  λ fits. c.can_be_met.ensures.1 (subst (λ (ns : List Need). (need : Need) → Contains ns need → CanMeet c.args.universe.now c.args.rules.now c.args.roots.now need) (sym c.as_slice-needs.ensures) fits.needs_can_be_met),
+  λ fits. c.can_be_met.ensures.1 (subst (λ (ns : List Need). (need : Need) → Contains ns need → CanMeet c.args.universe.now c.args.rules.now c.args.roots.now c.args.dead.now need) (sym c.as_slice-needs.ensures) fits.needs_can_be_met),
 )

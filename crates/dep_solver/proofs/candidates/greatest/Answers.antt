@@ -5,12 +5,12 @@ use Rattle.dep_solver.proofs.CandidateLemmas.{tried_more, tried_none}
 use Rattle.dep_solver.proofs.candidates.greatest.Goals as goal
 
 pub loop-tried-init : goal.loop-tried-init
-loop-tried-init c = tried_none (Fits c.args.universe.now c.args.rules.now c.args.roots.now c.args.places.now c.args.name.now) c.args.releases.now c.args.given_up
+loop-tried-init c = tried_none (Fits c.args.universe.now c.args.rules.now c.args.roots.now c.args.dead.now c.args.places.now c.args.name.now) c.args.releases.now c.args.given_up
 
 pub loop-tried-preserved : goal.loop-tried-preserved
 loop-tried-preserved c =
     let index : ℕ = length c.args.releases.now - 1 - c.loop-tried.tried in
-    tried_more (Fits c.args.universe.now c.args.rules.now c.args.roots.now c.args.places.now c.args.name.now) c.args.releases.now c.args.given_up c.loop-tried.tried index c.index-releases-releases.result
+    tried_more (Fits c.args.universe.now c.args.rules.now c.args.roots.now c.args.dead.now c.args.places.now c.args.name.now) c.args.releases.now c.args.given_up c.loop-tried.tried index c.index-releases-releases.result
     c.loop-tried.invariant (omega (arith, c.loop-tried-test.true))
     (slice_get_read c.args.releases.now (length c.args.releases.now) index c.index-releases-releases.result refl (omega (arith, c.loop-tried-test.true)) c.index-releases-releases.is)
     (λ h. true≢false (sym (c.fits.ensures.1 h) ∙ c.if-fits.false))
