@@ -1,6 +1,6 @@
 -- The releases that can be chosen, and the greatest of them.
-use Rattle.std.proofs.Common.{◌≡◌, ℕ, ◌+◌, ◌-◌, ◌<◌, ◌≤◌, ◌⊎◌, List, length, map, get_or, slice_get, Option, Some, Contains, arith, ap, refl, sym, subst, ◌∙◌, inl, inr, Bool, false}
-use Rattle.std.proofs.lemmas.Option.{same_Some, slice_get_read, slice_get_within}
+use Rattle.std.proofs.Common.{◌≡◌, ℕ, ◌+◌, ◌<◌, ◌≤◌, List, length, map, slice_get, Some, Contains, arith, ap, sym, subst, ◌∙◌, inl, inr, Bool, false}
+use Rattle.std.proofs.lemmas.Option.{same_Some}
 use Rattle.version_rules.specs.declared.needs.Need.{Need}
 use Rattle.version_rules.specs.declared.versions.Version.{Version}
 use Rattle.dep_solver.specs.declared.roots.Roots.{Roots}

@@ -1,5 +1,5 @@
 -- The choice of a list of places: what it has.
-use Rattle.std.proofs.Common.{◌≡◌, Bool, true, false, cond, List, [], ◌∷◌, ◌++◌, map, Option, Some, None, Contains, Equal, Ordering, is_eq, ap, refl, sym, subst, ◌∙◌, inl, inr, true≢false}
+use Rattle.std.proofs.Common.{◌≡◌, Bool, true, false, cond, List, [], ◌∷◌, map, Some, Contains, is_eq, ap, refl, sym, ◌∙◌, inl, inr, true≢false}
 use Rattle.std.proofs.lemmas.Cmp.{tied_itself}
 use Rattle.std.proofs.lemmas.List.Elements.{All-contains, All-from_recursion}
 use Rattle.std.proofs.lemmas.Map.Keys.{IsDistinct-head, IsDistinct-tail}
@@ -12,7 +12,7 @@ use Rattle.std.specs.Ordering.{eq_by_cmp}
 use Rattle.version_rules.specs.declared.versions.Version.{Version}
 use Rattle.dep_solver.specs.declared.roots.Pin.{Pin}
 use Rattle.dep_solver.specs.Names.{CookbookName, name_cmp, same_name}
-use Rattle.dep_solver.specs.Solutions.{Choice, choice_of}
+use Rattle.dep_solver.specs.Solutions.{choice_of}
 use Rattle.dep_solver.proofs.ListLemmas.{contains_map, here, in_tail, nowhere, there}
 use Rattle.dep_solver.proofs.WalkLemmas.{same_from_name}
 

@@ -1,17 +1,16 @@
 -- Flags of releases that are in no solution.
-use Rattle.std.proofs.Common.{◌≡◌, ℕ, zero, suc, ◌+◌, ◌<◌, ◌≤◌, Bool, true, false, not, cond, List, [], ◌∷◌, ◌++◌, length, map, get_or, slice_get, find, unwrap_or, Option, Some, None, Contains, arith, ap, refl, sym, subst, ◌∙◌, inl, inr, true≢false}
+use Rattle.std.proofs.Common.{◌≡◌, ℕ, zero, suc, ◌+◌, ◌<◌, Bool, true, false, not, cond, List, [], ◌∷◌, ◌++◌, length, get_or, slice_get, find, Some, Contains, arith, ap, refl, sym, subst, ◌∙◌, inl, inr, true≢false}
 use Rattle.std.proofs.lemmas.List.{length-append}
 use Rattle.std.proofs.lemmas.Option.{none-some, same_Some, slice_get_read, slice_get_within}
-use Rattle.version_rules.specs.declared.needs.Need.{Need}
 use Rattle.dep_solver.specs.declared.roots.Roots.{Roots}
 use Rattle.dep_solver.specs.declared.rules.EnvRules.{EnvRules}
 use Rattle.dep_solver.specs.declared.universe.Cookbook.{Cookbook}
 use Rattle.dep_solver.specs.declared.universe.Release.{Release}
 use Rattle.dep_solver.specs.declared.universe.Universe.{Universe}
 use Rattle.dep_solver.specs.Names.{CookbookName, same_name}
-use Rattle.dep_solver.specs.Search.{AreFlagsOf, AreNeverChosen, CanMeet, Flags, IsFlag, Zips, flags_of, is_set}
-use Rattle.dep_solver.specs.Universes.{needs_in, releases_in, releases_of}
-use Rattle.dep_solver.proofs.ListLemmas.{slice_get_at_end, slice_get_left}
+use Rattle.dep_solver.specs.Search.{AreFlagsOf, AreNeverChosen, Flags, IsFlag, Zips, flags_of, is_set}
+use Rattle.dep_solver.specs.Universes.{releases_of}
+use Rattle.dep_solver.proofs.ListLemmas.{slice_get_at_end}
 use Rattle.dep_solver.proofs.OrderLemmas.{three}
 use Rattle.dep_solver.proofs.ReleaseLemmas.{needs_at}
 use Rattle.dep_solver.proofs.SearchLemmas.{solution_can}

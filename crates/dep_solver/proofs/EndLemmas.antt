@@ -1,25 +1,22 @@
 -- The end of the search: a walk that ends, of places that are sound, is the best solution.
-use Rattle.std.proofs.Common.{◌≡◌, ◌⊎◌, List, [], ◌∷◌, ◌++◌, map, Option, Some, None, IsSome, Contains, ap, refl, sym, subst, ◌∙◌, inl, inr, append_assoc, append-nil, ℕ}
-use Rattle.std.proofs.lemmas.List.Elements.{Contains-append_left, Contains-append_right, Contains-push_cases}
+use Rattle.std.proofs.Common.{◌≡◌, List, [], ◌∷◌, ◌++◌, map, Option, Some, None, IsSome, Contains, ap, refl, sym, subst, ◌∙◌, inl, inr, append_assoc, append-nil, ℕ}
+use Rattle.std.proofs.lemmas.List.Elements.{Contains-append_left, Contains-push_cases}
 use Rattle.std.proofs.lemmas.Option.{none-some, same_Some}
 use Rattle.std.specs.Cmp.Lexicographic.{nat_list_cmp_total}
 use Rattle.std.specs.FinMap as finite
-use Rattle.std.specs.List.{IsDistinct}
-use Rattle.version_rules.specs.declared.needs.Need.{Need}
 use Rattle.version_rules.specs.declared.versions.Version.{Version}
 use Rattle.dep_solver.specs.declared.roots.Pin.{Pin}
 use Rattle.dep_solver.specs.declared.roots.Roots.{Roots}
 use Rattle.dep_solver.specs.declared.rules.EnvRules.{EnvRules}
 use Rattle.dep_solver.specs.declared.universe.Universe.{Universe}
-use Rattle.dep_solver.specs.Best.{IsBest, IsBetter}
-use Rattle.dep_solver.specs.Names.{CookbookName, same_name}
+use Rattle.dep_solver.specs.Names.{CookbookName}
 use Rattle.dep_solver.specs.Search.{FindsBest}
-use Rattle.dep_solver.specs.Solutions.{Choice, IsAllowed, IsMet, IsReached, IsSolution, by_need, by_root, choice_of}
+use Rattle.dep_solver.specs.Solutions.{Choice, IsAllowed, IsReached, IsSolution, by_need, by_root, choice_of}
 use Rattle.dep_solver.specs.Universes.{needs_in}
-use Rattle.dep_solver.specs.Walks.{Begins, Follow, Holds, next, with_places}
+use Rattle.dep_solver.specs.Walks.{Follow, Holds, next, with_places}
 use Rattle.dep_solver.proofs.ChoiceLemmas.{choice_found, choice_has, names_apart}
-use Rattle.dep_solver.proofs.ListLemmas.{contains_at, contains_map, here, map_contains, nowhere}
-use Rattle.dep_solver.proofs.SearchLemmas.{HasSearched, IsLeft, IsPassed, Sound}
+use Rattle.dep_solver.proofs.ListLemmas.{contains_at, map_contains, nowhere}
+use Rattle.dep_solver.proofs.SearchLemmas.{HasSearched, Sound}
 use Rattle.dep_solver.proofs.WalkLemmas.{Follow-front, in_places, kept, names_all, names_distinct, with_places-grows, with_places-has}
 
 module _ (universe : Universe) (roots : List CookbookName) (choice : Choice) where

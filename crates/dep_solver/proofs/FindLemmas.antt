@@ -1,11 +1,11 @@
 -- The cookbook of a name, found by halving.
-use Rattle.std.proofs.Common.{◌≡◌, ℕ, zero, suc, ◌+◌, ◌<◌, ◌≤◌, ◌⊎◌, inl, inr, Bool, true, false, cond, List, [], ◌∷◌, length, map, get_or, slice_get, find, Option, Some, None, HoldsAt, Less, Equal, Greater, Ordering, is_lt, arith, ap, refl, sym, subst, ◌∙◌, true≢false, unwrap_or}
+use Rattle.std.proofs.Common.{◌≡◌, ℕ, zero, suc, ◌+◌, ◌<◌, ◌≤◌, ◌⊎◌, inl, inr, Bool, true, false, cond, List, [], ◌∷◌, length, map, get_or, slice_get, find, Some, None, HoldsAt, Less, Equal, Greater, Ordering, is_lt, arith, ap, refl, sym, subst, ◌∙◌, unwrap_or}
 use Rattle.std.proofs.lemmas.Cmp.{tied_itself}
 use Rattle.std.proofs.lemmas.List.Sorted.{searchable_from_sorted}
 use Rattle.std.proofs.lemmas.Map.Keys.{sorted_head, sorted_tail}
 use Rattle.std.proofs.lemmas.Option.{none-some, same_Some, slice_get-get_or}
 use Rattle.std.specs.Cmp.Lexicographic.{nat_list_cmp_total}
-use Rattle.std.specs.List.{AllByRecursion, AllWithin}
+use Rattle.std.specs.List.{AllByRecursion}
 use Rattle.std.specs.List.Sorted.{IsNonDecreasingBy, IsPartitionPoint, IsStrictlySortedBy}
 use Rattle.std.specs.Ordering.{ordering_index, ordering_reverse}
 use Rattle.dep_solver.specs.declared.universe.Cookbook.{Cookbook}

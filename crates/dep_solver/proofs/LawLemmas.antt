@@ -1,5 +1,5 @@
 -- The laws of walks and of solutions.
-use Rattle.std.proofs.Common.{◌≡◌, ℕ, zero, suc, ◌+◌, ◌<◌, ◌≤◌, ◌⊎◌, List, [], ◌∷◌, ◌++◌, length, get_or, slice_get, Option, Some, None, Less, Equal, Greater, Ordering, arith, ap, refl, sym, subst, ◌∙◌, inl, inr, append-nil, append_assoc}
+use Rattle.std.proofs.Common.{◌≡◌, ℕ, zero, suc, ◌+◌, ◌<◌, ◌⊎◌, List, [], ◌∷◌, ◌++◌, length, get_or, slice_get, Option, Some, None, Less, Equal, Greater, Ordering, arith, ap, refl, sym, subst, ◌∙◌, inl, inr, append-nil, append_assoc}
 use Rattle.std.proofs.lemmas.List.{length-append}
 use Rattle.std.proofs.lemmas.Option.{none-some, same_Some, slice_get-get_or}
 use Rattle.std.specs.FinMap as finite
@@ -10,8 +10,8 @@ use Rattle.dep_solver.specs.declared.roots.Pin.{Pin}
 use Rattle.dep_solver.specs.declared.roots.Roots.{Roots}
 use Rattle.dep_solver.specs.declared.rules.EnvRules.{EnvRules}
 use Rattle.dep_solver.specs.declared.universe.Universe.{Universe}
-use Rattle.dep_solver.specs.Best.{IsBest, IsBetter}
-use Rattle.dep_solver.specs.Laws.{BestIsNoneBetter, GoOnAlike, OneIsBetter, PlacesFixTheNext, SolutionsHaveWalks}
+use Rattle.dep_solver.specs.Best.{IsBetter}
+use Rattle.dep_solver.specs.Laws.{BestIsNoneBetter, OneIsBetter, PlacesFixTheNext, SolutionsHaveWalks}
 use Rattle.dep_solver.specs.Names.{CookbookName}
 use Rattle.dep_solver.specs.Solutions.{Choice, IsSolution}
 use Rattle.dep_solver.specs.Walks.{Begins, Follow, Holds, IsWalk, next}

@@ -1,10 +1,6 @@
 -- The loop of the search: what it keeps, and that each branch keeps it and comes nearer to the end.
-use Rattle.std.proofs.Common.{◌≡◌, ℕ, ◌+◌, ◌*◌, ◌<◌, ◌≤◌, Bor, List, [], ◌∷◌, ◌++◌, length, map, take, slice_get, Option, Some, None, Contains, arith, ap, refl, sym, subst, ◌∙◌, inl, inr, append_assoc, append-nil, take_at}
-use Rattle.std.proofs.lemmas.List.{length-append, length-map, map-append, map_push, take-map}
-use Rattle.std.proofs.lemmas.List.Elements.{Contains-append_left, Contains-push}
-use Rattle.std.proofs.lemmas.Option.{slice_get_past}
-use Rattle.version_rules.specs.declared.needs.Need.{Need}
-use Rattle.version_rules.specs.declared.versions.Version.{Version}
+use Rattle.std.proofs.Common.{◌≡◌, ℕ, ◌+◌, ◌*◌, ◌<◌, ◌≤◌, Bor, List, [], ◌∷◌, ◌++◌, length, map, take, slice_get, Some, None, Contains, arith, ap, refl, sym, subst, ◌∙◌, inl, inr, append_assoc, append-nil, take_at}
+use Rattle.std.proofs.lemmas.List.{length-append, length-map, map_push, take-map}
 use Rattle.version_rules.specs.Meets.{Meets}
 use Rattle.dep_solver.specs.declared.roots.Pin.{Pin}
 use Rattle.dep_solver.specs.declared.roots.Roots.{Roots}
@@ -24,7 +20,7 @@ use Rattle.dep_solver.proofs.ListLemmas.{contains_map, in_tail, map_contains, no
 use Rattle.dep_solver.proofs.MeasureLemmas.{few_places, few_releases, left_to_try, release_count, try_falls, try_stays}
 use Rattle.dep_solver.proofs.ReleaseLemmas.{needs_at}
 use Rattle.dep_solver.proofs.SearchLemmas.{Goes, HasSearched, Sound, search_chooses, search_ends, search_gives_up, search_starts, sound_front, sound_none, sound_push}
-use Rattle.dep_solver.proofs.WalkLemmas.{Grows, names_distinct, with_needs-grows, with_places-append}
+use Rattle.dep_solver.proofs.WalkLemmas.{names_distinct, with_needs-grows, with_places-append}
 
 -- where the release of a place stands, how many were tried, and how many names were reached before it
 pub record KeptAt (universe : Universe) (roots : List CookbookName) (before : List Pin) (place : Place) : Type 0 where

@@ -1,19 +1,18 @@
 -- How much is left to try, and that the walk of what is allowed is no longer than the universe.
-use Rattle.std.proofs.Common.{◌≡◌, ℕ, zero, suc, ◌+◌, ◌-◌, ◌*◌, ◌^◌, ◌<◌, ◌≤◌, Bool, true, false, cond, List, [], ◌∷◌, ◌++◌, length, map, find, Option, Some, None, Contains, arith, ap, refl, sym, subst, ◌∙◌, mul-le-mul_right, pow-suc, mul-pos}
+use Rattle.std.proofs.Common.{◌≡◌, ℕ, zero, suc, ◌+◌, ◌-◌, ◌*◌, ◌^◌, ◌<◌, ◌≤◌, Bool, true, false, cond, List, [], ◌∷◌, ◌++◌, length, map, find, Some, Contains, arith, refl, sym, subst, ◌∙◌, mul-le-mul_right, pow-suc, mul-pos}
 use Rattle.std.proofs.Math.Nat.{pow-zero}
 use Rattle.std.proofs.lemmas.List.{length-map}
 use Rattle.std.proofs.lemmas.Map.Made.{length-le_from_is_member}
 use Rattle.std.proofs.lemmas.Map.Views.{Contains-from_any, list_any-from_Contains}
 use Rattle.std.specs.Cmp.Lexicographic.{nat_list_eq_equiv}
 use Rattle.std.specs.List.{IsDistinct}
-use Rattle.std.specs.Set.{is_member}
 use Rattle.dep_solver.specs.declared.roots.Pin.{Pin}
 use Rattle.dep_solver.specs.declared.universe.Cookbook.{Cookbook}
 use Rattle.dep_solver.specs.declared.universe.Release.{Release}
 use Rattle.dep_solver.specs.declared.universe.Universe.{Universe}
 use Rattle.dep_solver.specs.Names.{CookbookName, same_name}
-use Rattle.dep_solver.specs.Universes.{cookbook_in, releases_in, releases_of}
-use Rattle.dep_solver.proofs.ListLemmas.{contains_map, here, map_contains, nowhere, there}
+use Rattle.dep_solver.specs.Universes.{releases_in, releases_of}
+use Rattle.dep_solver.proofs.ListLemmas.{here, map_contains, nowhere, there}
 use Rattle.dep_solver.proofs.WalkLemmas.{name_from_same}
 
 -- ---- how much is left to try, where each name has at most b releases and there are d names

@@ -1,22 +1,20 @@
 -- The releases of a name: their versions rise, so a version is that of one release.
-use Rattle.std.proofs.Common.{◌≡◌, ℕ, zero, suc, ◌+◌, ◌<◌, ◌≤◌, ◌⊎◌, Bool, true, false, cond, List, [], ◌∷◌, length, map, get_or, slice_get, find, option_map, Option, Some, None, Contains, Less, Equal, Ordering, arith, ap, refl, sym, subst, ◌∙◌, inl, inr, true≢false}
-use Rattle.std.proofs.lemmas.Cmp.{tied_itself}
+use Rattle.std.proofs.Common.{◌≡◌, ℕ, zero, suc, ◌<◌, Bool, true, false, cond, List, [], ◌∷◌, length, map, get_or, slice_get, find, option_map, Option, Some, None, Contains, Less, arith, ap, refl, sym, subst, ◌∙◌, inl, inr, true≢false}
 use Rattle.std.proofs.lemmas.Map.Keys.{Less-from_sorted, sorted_head, sorted_tail}
 use Rattle.std.proofs.lemmas.Option.{none-some, same_Some, slice_get-map, slice_get_within, get_or_from_slice_get}
 use Rattle.std.proofs.lemmas.List.{length-map}
 use Rattle.std.specs.List.{AllByRecursion}
 use Rattle.std.specs.List.Sorted.{IsStrictlySortedBy}
 use Rattle.version_rules.specs.declared.versions.Version.{Version}
-use Rattle.version_rules.specs.declared.needs.Need.{Need}
 use Rattle.version_rules.specs.Order.{IsBelow, version_cmp}
 use Rattle.dep_solver.specs.declared.universe.Cookbook.{Cookbook}
 use Rattle.dep_solver.specs.declared.universe.Release.{Release}
 use Rattle.dep_solver.specs.declared.universe.Universe.{Universe}
 use Rattle.dep_solver.specs.Names.{CookbookName}
 use Rattle.dep_solver.specs.Universes.{cookbook_in, needs_in, needs_of, releases_in, releases_of, same_version}
-use Rattle.dep_solver.proofs.ListLemmas.{at_contains, contains_at, in_tail, map_contains}
-use Rattle.dep_solver.proofs.OrderLemmas.{less_from_sorted, three}
-use Rattle.dep_solver.proofs.VersionLemmas.{below_both, below_from_less, not_below_itself, same_version_itself, version_from_same, versions_total}
+use Rattle.dep_solver.proofs.ListLemmas.{at_contains, map_contains}
+use Rattle.dep_solver.proofs.OrderLemmas.{three}
+use Rattle.dep_solver.proofs.VersionLemmas.{below_both, below_from_less, not_below_itself, same_version_itself, version_from_same}
 
 rises_of : (found : Option Cookbook) → IsStrictlySortedBy version_cmp (map (λ (r : Release). r.version) (releases_of found))
 unfolding IsStrictlySortedBy

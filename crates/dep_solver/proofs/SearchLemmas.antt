@@ -1,7 +1,7 @@
 -- The search: what it has done at a list of places, and that each step keeps this.
-use Rattle.std.proofs.Common.{◌≡◌, ℕ, zero, suc, ◌+◌, ◌<◌, ◌≤◌, ◌⊎◌, List, [], ◌∷◌, ◌++◌, length, map, slice_get, Option, Some, None, IsSome, Contains, arith, ap, refl, sym, subst, ◌∙◌, inl, inr, append_assoc, append-nil, true≢false, Bool, true, false}
-use Rattle.std.proofs.lemmas.List.Elements.{Contains-append_left, Contains-append_right, Contains-push, Contains-push_cases}
-use Rattle.std.proofs.lemmas.Option.{none-some, same_Some, slice_get_within}
+use Rattle.std.proofs.Common.{◌≡◌, ℕ, ◌+◌, ◌<◌, ◌⊎◌, List, [], ◌∷◌, ◌++◌, length, map, slice_get, Option, Some, None, IsSome, Contains, arith, ap, refl, sym, subst, ◌∙◌, inl, inr, append_assoc, true≢false, Bool, true, false}
+use Rattle.std.proofs.lemmas.List.Elements.{Contains-append_left, Contains-push, Contains-push_cases}
+use Rattle.std.proofs.lemmas.Option.{same_Some, slice_get_within}
 use Rattle.std.specs.FinMap as finite
 use Rattle.version_rules.specs.declared.needs.Need.{Need}
 use Rattle.version_rules.specs.declared.versions.Version.{Version}
@@ -14,7 +14,7 @@ use Rattle.dep_solver.specs.declared.universe.Release.{Release}
 use Rattle.dep_solver.specs.declared.universe.Universe.{Universe}
 use Rattle.dep_solver.specs.Names.{CookbookName}
 use Rattle.dep_solver.specs.Search.{AreNeverChosen, CanMeet, Flags, IsChoosable, flags_of, is_set}
-use Rattle.dep_solver.specs.Solutions.{Choice, IsAllowed, IsMet, IsReached, IsSolution}
+use Rattle.dep_solver.specs.Solutions.{Choice, IsAllowed, IsMet, IsSolution}
 use Rattle.dep_solver.specs.Universes.{needs_in, releases_in}
 use Rattle.dep_solver.specs.Walks.{Begins, Follow, Holds, next, with_places}
 use Rattle.dep_solver.proofs.ListLemmas.{contains_at, contains_map, nowhere, split_cases}

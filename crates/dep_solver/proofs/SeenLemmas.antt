@@ -1,5 +1,5 @@
 -- Names seen through references, one more and all of them.
-use Rattle.std.proofs.Common.{◌≡◌, ℕ, ◌+◌, ◌<◌, ◌≤◌, Bool, true, false, cond, ◌||◌, List, [], ◌∷◌, ◌++◌, length, map, take, drop, get_or, Bor, ap, sym, refl, ◌∙◌, take_all}
+use Rattle.std.proofs.Common.{◌≡◌, ℕ, ◌+◌, ◌<◌, ◌≤◌, Bool, true, false, cond, ◌||◌, List, [], ◌∷◌, ◌++◌, length, take, drop, get_or, Bor, ap, sym, refl, ◌∙◌, take_all}
 use Rattle.std.proofs.lemmas.List.{drop_all, drop_more, map_push, take_more}
 use Rattle.std.specs.List.{list_any}
 use Rattle.std.specs.Set.{is_member}

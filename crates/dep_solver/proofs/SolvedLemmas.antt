@@ -1,5 +1,5 @@
 -- The chosen versions in byte order: they are the same choice, and each name stands once.
-use Rattle.std.proofs.Common.{◌≡◌, ℕ, ◌+◌, ◌<◌, ◌≤◌, Bool, true, false, List, [], ◌∷◌, ◌++◌, length, map, take, get_or, Option, Some, None, Contains, IsPermutation, IsSorted, Less, Equal, Greater, Ordering, is_lt, arith, ap, sym, refl, subst, ◌∙◌, take_all, true≢false}
+use Rattle.std.proofs.Common.{◌≡◌, ℕ, ◌+◌, ◌<◌, ◌≤◌, false, List, [], ◌∷◌, ◌++◌, length, map, take, get_or, Option, Some, None, IsPermutation, IsSorted, Less, Equal, Greater, Ordering, is_lt, arith, ap, sym, refl, subst, ◌∙◌, take_all, true≢false}
 use Rattle.std.proofs.lemmas.List.{get_or-map, length-map, map_push, take_more}
 use Rattle.std.proofs.lemmas.List.Sorted.{Contains-permutation, IsPermutation-map, IsPermutation-sym}
 use Rattle.std.proofs.lemmas.Map.Keys.{IsDistinct-IsPermutation, apart_from_distinct}

@@ -1,8 +1,7 @@
 -- Versions: their order, and when two are one.
-use Rattle.std.proofs.Common.{◌≡◌, ℕ, ◌<◌, ◌⊎◌, Bool, true, false, ◌&&◌, ◌==◌, Less, Equal, Greater, Ordering, arith, refl, sym, inl, inr}
+use Rattle.std.proofs.Common.{◌≡◌, true, Less, Equal, arith}
 use Rattle.std.proofs.lemmas.Bool.Decides.{nat_tests}
 use Rattle.std.specs.Cmp.{IsTotalOrder, nat_cmp_total, on_total, then_total}
-use Rattle.std.specs.Ordering.{nat_cmp, on, then_cmp}
 use Rattle.version_rules.specs.declared.versions.Version.{Version}
 use Rattle.version_rules.specs.Order.{IsBelow, version_cmp}
 use Rattle.dep_solver.specs.Universes.{same_version}

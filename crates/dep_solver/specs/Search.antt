@@ -17,7 +17,7 @@ use Rattle.dep_solver.specs.declared.universe.Release.{Release}
 use Rattle.dep_solver.specs.declared.universe.Universe.{Universe}
 use Rattle.dep_solver.specs.Best.{IsBest}
 use Rattle.dep_solver.specs.Names.{CookbookName, name_cmp, same_name}
-use Rattle.dep_solver.specs.Solutions.{Choice, IsAllowed, IsSolution, choice_of}
+use Rattle.dep_solver.specs.Solutions.{Choice, IsSolution, choice_of}
 use Rattle.dep_solver.specs.Universes.{releases_in}
 use Rattle.dep_solver.specs.Walks.{Follow, with_needs}
 use Rattle.std.specs.Borrow.{Bor}

@@ -1,5 +1,5 @@
 -- Solutions: the choices of versions that hold the roots and all that the chosen versions need, and nothing else.
-use Rattle.std.specs.Prelude.{◌≡◌, List, map, Contains, Option, Some, IsSome}
+use Rattle.std.specs.Prelude.{◌≡◌, List, map, Contains, Some, IsSome}
 use Rattle.std.specs.FinMap as finite
 use Rattle.version_rules.specs.declared.needs.Need.{Need}
 use Rattle.version_rules.specs.declared.versions.Version.{Version}

@@ -1,7 +1,6 @@
 //! Which release of a name goes with the places that were chosen.
-ghost use Rattle.std.specs.Prelude.{◌≡◌, ◌↔◌, ◌≤◌, IsTrue, IfSome, IfNone, Contains, MatchOption, length};
+ghost use Rattle.std.specs.Prelude.{◌≡◌, ◌↔◌, IsTrue, Contains, MatchOption};
 ghost use Rattle.dep_solver.specs.Search.{CanMeet, Fits, IsGreatest, NoneFits};
-ghost use Rattle.dep_solver.specs.Universes.{releases_in};
 ghost use Rattle.version_rules.specs.Meets.{Meets};
 ghost use Rattle.version_rules.specs.declared.needs.Need.{Need};
 ghost use Rattle.dep_solver.specs.declared.roots.Pin.{Pin};

@@ -1,5 +1,5 @@
 //! Which releases are in no solution: those of which a need has no version that can be chosen.
-ghost use Rattle.std.specs.Prelude.{◌≡◌, IfOk};
+ghost use Rattle.std.specs.Prelude.{IfOk};
 ghost use Rattle.dep_solver.specs.Search.{AreFlagsOf, AreNeverChosen, Zips};
 
 use crate::candidates::can_be_met;

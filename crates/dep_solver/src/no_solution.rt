@@ -1,3 +1,4 @@
+//! Why no versions were chosen.
 ghost use Rattle.std.specs.Prelude.{◌≡◌};
 
 use doc_tree::{Names, NoMemory as NoMemoryError};

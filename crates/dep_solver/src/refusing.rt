@@ -1,5 +1,5 @@
 //! What a refusal tells: which roots the universe lacks, and which have no version that can be chosen.
-ghost use Rattle.std.specs.Prelude.{◌≡◌, ◌↔◌, IfOk, IsTrue};
+ghost use Rattle.std.specs.Prelude.{◌↔◌, IfOk, IsTrue};
 ghost use Rattle.dep_solver.specs.Refusals.{AreThose, HasNoVersion, IsLacking, Tells};
 ghost use Rattle.dep_solver.specs.Solutions.{Choice, IsSolution};
 

@@ -81,8 +81,6 @@ fn with_copies(
     })
 }
 
-ghost use Rattle.std.specs.Prelude.{Contains};
-
 // What was chosen at the places, in the byte order of the names.
 fn in_byte_order(alloc: Global, places: &[Place<'_>]) -> Result<Pins, NoMemory>
     ensures chosen { IfOk result (IsPermutation (map pin_of places.now)) }

@@ -1,4 +1,4 @@
-use Rattle.std.proofs.Common.{◌≡◌, Contains, true≢false, sym, refl, ◌∙◌}
+use Rattle.std.proofs.Common.{◌≡◌, true≢false, sym, refl, ◌∙◌}
 use Rattle.version_rules.specs.declared.needs.Need.{Need}
 use Rattle.version_rules.specs.Meets.{Meets}
 use Rattle.dep_solver.proofs.EachLemmas.{each_all, each_more, read_inside}

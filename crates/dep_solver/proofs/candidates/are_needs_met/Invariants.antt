@@ -1,5 +1,5 @@
 -- Each before the index passed.
-use Rattle.std.proofs.Common.{◌≡◌, Contains}
+use Rattle.std.proofs.Common.{◌≡◌}
 use Rattle.version_rules.specs.declared.needs.Need.{Need}
 use Rattle.version_rules.specs.Meets.{Meets}
 use Rattle.dep_solver.proofs.EachLemmas.{EachBefore}

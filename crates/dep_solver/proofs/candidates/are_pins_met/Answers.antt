@@ -1,4 +1,4 @@
-use Rattle.std.proofs.Common.{◌≡◌, Contains, true≢false, sym, refl, ◌∙◌}
+use Rattle.std.proofs.Common.{◌≡◌, true≢false, sym, refl, ◌∙◌}
 use Rattle.dep_solver.specs.declared.roots.Pin.{Pin}
 use Rattle.dep_solver.proofs.EachLemmas.{each_all, each_more, read_inside}
 use Rattle.dep_solver.proofs.ListLemmas.{nowhere}

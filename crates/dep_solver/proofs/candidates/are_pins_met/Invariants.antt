@@ -1,5 +1,5 @@
 -- Each before the index passed.
-use Rattle.std.proofs.Common.{◌≡◌, Contains}
+use Rattle.std.proofs.Common.{◌≡◌}
 use Rattle.dep_solver.specs.declared.roots.Pin.{Pin}
 use Rattle.dep_solver.proofs.EachLemmas.{EachBefore}
 use Rattle.dep_solver.proofs.candidates.are_pins_met.Given as goal

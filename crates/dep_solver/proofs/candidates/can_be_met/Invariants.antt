@@ -1,5 +1,4 @@
 -- Each before the index passed.
-use Rattle.std.proofs.Common.{◌≡◌, Contains}
 use Rattle.version_rules.specs.declared.needs.Need.{Need}
 use Rattle.dep_solver.specs.Search.{CanMeet}
 use Rattle.dep_solver.proofs.EachLemmas.{EachBefore}

@@ -1,5 +1,5 @@
 -- Each before the index passed.
-use Rattle.std.proofs.Common.{◌≡◌, Contains}
+use Rattle.std.proofs.Common.{◌≡◌}
 use Rattle.version_rules.specs.Meets.{Meets}
 use Rattle.dep_solver.specs.declared.search.Place.{Place}
 use Rattle.dep_solver.proofs.EachLemmas.{EachBefore}

@@ -1,4 +1,4 @@
-use Rattle.std.proofs.Common.{◌≡◌, List, Contains, true≢false, sym, refl, subst, ◌∙◌}
+use Rattle.std.proofs.Common.{◌≡◌, List, Contains, true≢false, sym, subst, ◌∙◌}
 use Rattle.version_rules.specs.declared.needs.Need.{Need}
 use Rattle.version_rules.specs.Meets.{Meets}
 use Rattle.dep_solver.specs.declared.roots.Pin.{Pin}

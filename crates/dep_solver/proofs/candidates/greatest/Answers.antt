@@ -1,4 +1,4 @@
-use Rattle.std.proofs.Common.{◌≡◌, ◌+◌, ◌-◌, length, arith, refl, true≢false, sym, ◌∙◌, ℕ}
+use Rattle.std.proofs.Common.{◌-◌, length, arith, refl, true≢false, sym, ◌∙◌, ℕ}
 use Rattle.std.proofs.lemmas.Option.{slice_get_read}
 use Rattle.dep_solver.specs.Search.{Fits}
 use Rattle.dep_solver.proofs.CandidateLemmas.{tried_more, tried_none}

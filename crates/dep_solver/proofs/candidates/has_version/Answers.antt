@@ -1,4 +1,4 @@
-use Rattle.std.proofs.Common.{◌≡◌, ℕ, false, true≢false, sym, refl, subst, ap, ◌∙◌, List, Bool, slice_get, length}
+use Rattle.std.proofs.Common.{◌≡◌, ℕ, false, true≢false, sym, refl, ◌∙◌, length}
 use Rattle.std.proofs.lemmas.Option.{slice_get_read}
 use Rattle.dep_solver.specs.declared.universe.Release.{Release}
 use Rattle.dep_solver.specs.Search.{IsChoosable, is_set}

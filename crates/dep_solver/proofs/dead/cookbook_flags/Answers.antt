@@ -1,4 +1,4 @@
-use Rattle.std.proofs.Common.{◌≡◌, ◌<◌, List, Contains, length, get_or, ap, subst, sym, ◌∙◌, ◌++◌, ◌∷◌, []}
+use Rattle.std.proofs.Common.{◌≡◌, ◌<◌, List, Contains, length, get_or, subst, sym}
 use Rattle.version_rules.specs.declared.needs.Need.{Need}
 use Rattle.dep_solver.specs.declared.universe.Release.{Release}
 use Rattle.dep_solver.specs.Search.{CanMeet, IsFlag}

@@ -1,4 +1,4 @@
-use Rattle.std.proofs.Common.{Bor, List, ap, ◌∙◌}
+use Rattle.std.proofs.Common.{Bor, ap, ◌∙◌}
 use Rattle.std.specs.List.{list_any}
 use Rattle.doc_tree.specs.declared.name.Name.{Name}
 use Rattle.dep_solver.specs.Names.{same_name}

@@ -1,4 +1,4 @@
-use Rattle.std.proofs.Common.{arith, get_or, ◌-◌, ℕ, true≢false, sym, refl}
+use Rattle.std.proofs.Common.{arith, get_or, ◌-◌, true≢false, sym, refl}
 use Rattle.version_rules.specs.declared.needs.Need.{Need}
 use Rattle.std.specs.Cmp.Lexicographic.{nat_list_cmp_total}
 use Rattle.dep_solver.specs.Names.{name_cmp}

@@ -1,4 +1,4 @@
-use Rattle.std.proofs.Common.{arith, get_or, ◌-◌, ℕ, true≢false, sym, refl, ap, ◌∙◌, is_ge}
+use Rattle.std.proofs.Common.{arith, get_or, ◌-◌, true≢false, sym, refl, ap, ◌∙◌, is_ge}
 use Rattle.version_rules.specs.Order.{version_cmp}
 use Rattle.dep_solver.proofs.VersionLemmas.{versions_total}
 use Rattle.dep_solver.specs.declared.universe.Release.{Release}
