@@ -1,0 +1,31 @@
+use Rattle.std.proofs.Common.{◌≡◌, Vec, Global, ◌+◌, ◌<◌, ◌≤◌, ◌∙◌, length, get_or, subst, sym, true≢false, List, ap, ◌++◌, ◌∷◌, []}
+use Rattle.std.proofs.lemmas.List.Filters.{dedup_is}
+use Rattle.dep_solver.specs.Names.{CookbookName}
+use Rattle.dep_solver.specs.Refusals.{HasNoVersion}
+use Rattle.dep_solver.proofs.RefusalLemmas.{ListsBefore, lists_add, lists_all, lists_none, lists_skip}
+use Rattle.dep_solver.proofs.refusing.without_version.Goals as goal
+use Rattle.dep_solver.proofs.refusing.without_version.Goals.{else-has_no_version, then-has_no_version+in_ok-copy+in_ok-push}
+
+pub loop-name-init : goal.loop-name-init
+loop-name-init c = lists_none (HasNoVersion c.args.universe.now c.args.rules.now c.args.roots.now) c.args.roots.now.names c.new-names.result.items c.new-names.ensures.items
+
+pub loop-name-preserved : goal.loop-name-preserved
+loop-name-preserved c =
+    let i = c.loop-name.name-index in
+    let name = c.name-item.result in
+    let within = subst (λ (xs : List CookbookName). i < length xs) c.as_slice-name-items.ensures c.loop-name-test.true in
+    let at = subst (λ (xs : List CookbookName). name ≡ get_or xs i name) c.as_slice-name-items.ensures c.name-item.is in
+    elim c.if-has_no_version.branch [
+      | then-has_no_version+in_ok-copy+in_ok-push w ↦
+          lists_add (HasNoVersion c.args.universe.now c.args.rules.now c.args.roots.now) c.args.roots.now.names i name c.loop-name.names.items c.if-has_no_version.names.items within at (c.has_no_version.ensures.0 w.if-has_no_version.true)
+          (ap (λ (v : Vec CookbookName Global). v.items) w.names-is ∙ w.in_ok-push.ensures.items ∙ ap (λ (n : CookbookName). c.loop-name.names.items ++ n ∷ []) w.in_ok-copy.ensures) c.loop-name.invariant
+      | else-has_no_version w ↦
+          subst (λ (ns : List CookbookName). ListsBefore (HasNoVersion c.args.universe.now c.args.rules.now c.args.roots.now) c.args.roots.now.names (i + 1) ns) (sym (ap (λ (v : Vec CookbookName Global). v.items) w.names-is))
+          (lists_skip (HasNoVersion c.args.universe.now c.args.rules.now c.args.roots.now) c.args.roots.now.names i name c.loop-name.names.items within at (λ h. true≢false (sym (c.has_no_version.ensures.1 h) ∙ w.if-has_no_version.false)) c.loop-name.invariant)
+    ]
+
+pub returns : goal.returns
+returns c =
+    lists_all (HasNoVersion c.args.universe.now c.args.rules.now c.args.roots.now) c.args.roots.now.names c.loop-name.name-index c.loop-name.names.items c.sort_unstable.new.self.items c.of.result
+    (subst (λ (xs : List CookbookName). length xs ≤ c.loop-name.name-index) c.as_slice-name-items.ensures c.loop-name-test.false)
+    c.loop-name.invariant c.sort_unstable.ensures.permutation c.sort_unstable.ensures.sorted (c.of.ensures ∙ dedup_is _ _ _ c.dedup.ensures.filtered)

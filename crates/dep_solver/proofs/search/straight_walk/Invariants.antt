@@ -1,0 +1,10 @@
+-- Each solution is still to be found or is passed, and the places are sound.
+use Rattle.dep_solver.specs.Search.{seen}
+use Rattle.dep_solver.proofs.LoopLemmas.{Searches, to_do}
+use Rattle.dep_solver.proofs.search.straight_walk.Given as goal
+
+abbrev pub invariant-loop-name : goal.invariant-loop-name
+invariant-loop-name l = Searches l.universe l.rules l.roots (seen l.search.names.items) l.search.places.items l.search.given_up
+
+abbrev pub decreases-loop-name : goal.decreases-loop-name
+decreases-loop-name l = to_do l.universe l.rules l.roots l.search.places.items l.search.given_up

@@ -1,0 +1,23 @@
+//! The versions of cookbooks that meet all that is asked of them, and the best choice among these.
+#![tactic(auto)]
+
+mod candidates;
+mod dead;
+mod finding;
+mod laws;
+mod no_solution;
+mod refusing;
+mod roots;
+mod rules;
+mod search;
+mod solved;
+#[cfg(test)]
+mod tests;
+mod universe;
+
+pub use laws::{best_is_none_better, one_is_better, places_fix_the_next, solutions_have_walks};
+pub use no_solution::NoSolution;
+pub use roots::{Pin, Pins, Roots};
+pub use rules::EnvRules;
+pub use solved::{Solved, solve};
+pub use universe::{Cookbook, Cookbooks, Release, Releases, Universe};

@@ -1,0 +1,98 @@
+//! The best solution, and what finds it.
+ghost use Rattle.std.specs.Prelude.{map};
+ghost use Rattle.std.specs.List.Sorted.{IsStrictlySortedBy};
+ghost use Rattle.std.proofs.Props.{props};
+ghost use Rattle.dep_solver.specs.Best.{IsBest};
+ghost use Rattle.dep_solver.specs.Names.{name_cmp};
+ghost use Rattle.dep_solver.specs.Solutions.{choice_of};
+
+use crate::no_solution::NoSolution;
+use crate::refusing::unsolvable;
+use crate::roots::{Pin, Pins, Roots};
+use crate::rules::EnvRules;
+use crate::search::{Place, best_places};
+use crate::universe::Universe;
+use doc_tree::NoMemory;
+use std::alloc::Global;
+
+/// A universe, rules and roots with their best solution, in the byte order of the chosen names.
+#[derive(Drop)]
+pub struct Solved {
+    pub universe: Universe,
+    pub rules: EnvRules,
+    pub roots: Roots,
+    pub chosen: Pins,
+    pub ghost best: { ∥ IsBest universe rules roots (choice_of chosen) ∥₁ },
+    pub ghost in_order: { IsStrictlySortedBy name_cmp (map (λ pin. pin.name) chosen) } by { Prim.hlevel props },
+}
+
+ghost use Rattle.std.specs.Prelude.{◌≡◌, IfErr, IfOk};
+ghost use Rattle.dep_solver.specs.Refusals.{Tells};
+
+/// The best solution: a version for each root and for all that is needed, such that each version meets the pins, the
+/// rules and every need, and at the first place where another solution differs, in the order of the walk, this one has the
+/// greater version. The answer has its own copies of what it was given.
+///
+/// It is `Unsolvable` exactly where there is no solution. It isn't recursive; it may take long where many choices lead
+/// nowhere.
+pub fn solve(
+    alloc: Global,
+    universe: &Universe,
+    rules: &EnvRules,
+    roots: &Roots,
+) -> Result<Solved, NoSolution>
+    ensures universe { IfOk result (λ solved. solved.universe ≡ universe.now) }
+    ensures rules { IfOk result (λ solved. solved.rules ≡ rules.now) }
+    ensures roots { IfOk result (λ solved. solved.roots ≡ roots.now) }
+    ensures refusal { IfErr result (Tells universe.now rules.now roots.now) }
+{
+    match best_places(alloc, universe, rules, roots)? {
+        Some(places) => with_copies(alloc, universe, rules, roots, &places),
+        None => Err(unsolvable(alloc, universe, rules, roots)?),
+    }
+}
+
+ghost use Rattle.dep_solver.specs.Search.{FindsBest, pin_cmp, pin_of};
+ghost use Rattle.std.specs.List.Sorted.{IsPermutation, IsSorted};
+
+// The solution of these places, with its own copies of what it solves.
+fn with_copies(
+    alloc: Global,
+    universe: &Universe,
+    rules: &EnvRules,
+    roots: &Roots,
+    places: &[Place<'_>],
+) -> Result<Solved, NoSolution>
+    requires { FindsBest universe.now rules.now roots.now (map pin_of places.now) }
+    ensures universe { IfOk result (λ solved. solved.universe ≡ universe.now) }
+    ensures rules { IfOk result (λ solved. solved.rules ≡ rules.now) }
+    ensures roots { IfOk result (λ solved. solved.roots ≡ roots.now) }
+    ensures refusal { IfErr result (Tells universe.now rules.now roots.now) }
+{
+    let chosen = in_byte_order(alloc, places)?;
+    let universe = universe.copy(alloc)?;
+    let rules = rules.copy(alloc)?;
+    let roots = roots.copy(alloc)?;
+    Ok(Solved {
+        universe,
+        rules,
+        roots,
+        chosen,
+    })
+}
+
+// What was chosen at the places, in the byte order of the names.
+fn in_byte_order(alloc: Global, places: &[Place<'_>]) -> Result<Pins, NoMemory>
+    ensures chosen { IfOk result (IsPermutation (map pin_of places.now)) }
+    ensures in_order { IfOk result (λ pins. IsSorted pin_cmp pins) }
+{
+    let mut pins = Vec::new(alloc);
+    for place in places {
+        pins.push(Pin {
+            name: place.name.copy(alloc)?,
+            version: place.release.version,
+        })?;
+    }
+    pins.sort_unstable();
+    Ok(Pins::of(pins))
+}
