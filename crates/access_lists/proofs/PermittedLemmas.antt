@@ -1,13 +1,14 @@
--- Who is permitted, case by case.
-use Rattle.std.proofs.Common.{◌≡◌, ◌↔◌, ◌<◌, ◌≤◌, ◌+◌, ◌⊎◌, inl, inr, Bool, true, false, ℕ, zero, suc, List, [], ◌∷◌, length, slice_index_or, get_or, bytes_eq, Any, IsTrue, refl, sym, ap, subst, ◌∙◌, ◌||◌, true≢false, arith}
+-- `is_permitted` is the truth value of `Permitted`.
+use Rattle.std.proofs.Common.{◌≡◌, ◌↔◌, ◌<◌, inl, inr, Bool, true, false, ℕ, zero, suc, List, [], ◌∷◌, length, slice_index_or, bytes_eq, IsTrue, refl, sym, ap, ◌∙◌, ◌||◌, arith}
 use Rattle.std.specs.Cmp.Lexicographic.{bytes_decides}
-use Rattle.std.proofs.lemmas.Bool.{cases_lt}
+use Rattle.std.specs.List.{list_any}
+use Rattle.std.proofs.lemmas.List.Folds.{Any-from_list_any, list_any-from_Any}
 use Rattle.indexmap.proofs.CallerLemmas.{Contains-list_any}
 use Rattle.access_lists.specs.declared.acl.Entry.{Entry}
 use Rattle.access_lists.specs.TextSets.{lists}
 use Rattle.access_lists.specs.Members.{Membership}
-use Rattle.access_lists.specs.Belonging.{Belongs}
-use Rattle.access_lists.specs.Permitted.{Permitted, operator}
+use Rattle.access_lists.specs.Belonging.{belongs, Belongs}
+use Rattle.access_lists.specs.Permitted.{Permitted, is_permitted, operator}
 
 -- a text that is in a list is listed
 lists-at : (xs : List (List ℕ)) (q : List ℕ) (k : ℕ) → k < length xs → slice_index_or xs k q ≡ q → lists xs q ≡ true
@@ -15,50 +16,30 @@ lists-at [] q k within is = absurd (omega arith)
 lists-at (x ∷ xs) q zero within is = ap (λ b. b || lists xs q) ((bytes_decides q x).1 (sym is))
 lists-at (x ∷ xs) q (suc k) within is = elim (bytes_eq q x) as (λ b. (b || lists xs q) ≡ true) [ true ↦ refl | false ↦ lists-at xs q k (omega arith) is ]
 
--- the operator is permitted
-pub by_operator : (membership : Membership) (entry : Entry) (caller : List ℕ) → bytes_eq caller operator ≡ true → IsTrue true ↔ Permitted membership entry caller
-by_operator membership entry caller same = (λ _. inl ((bytes_decides caller operator).0 same), λ _. refl)
+second : (a b c : Bool) → b ≡ true → (a || (b || c)) ≡ true
+second true b c is = refl
+second false b c is = ap (λ d. d || c) is
 
--- an actor of the entry is permitted
-pub by_actor : (membership : Membership) (entry : Entry) (caller : List ℕ) → lists entry.actors caller ≡ true → IsTrue true ↔ Permitted membership entry caller
-by_actor membership entry caller listed =
-    (λ _. inr (inl (Contains-list_any bytes_eq (λ x y. (bytes_decides x y).0) entry.actors caller listed)), λ _. refl)
+third : (a b c : Bool) → c ≡ true → (a || (b || c)) ≡ true
+third true b c is = refl
+third false true c is = refl
+third false false c is = is
 
--- who is neither is permitted by his groups
-pub by_groups : (membership : Membership) (entry : Entry) (caller : List ℕ) (belongs : Bool) → bytes_eq caller operator ≡ false → lists entry.actors caller ≡ false
-    → (IsTrue belongs ↔ Any (Belongs membership caller) entry.groups) → IsTrue belongs ↔ Permitted membership entry caller
-by_groups membership entry caller belongs other unlisted by =
-    (λ is. inr (inr (by.0 is)), backwards) where
-      backwards : Permitted membership entry caller → IsTrue belongs
-      backwards (inl same) = absurd (true≢false (sym ((bytes_decides caller operator).1 same) ∙ other))
-      backwards (inr (inl actor)) = absurd (true≢false (sym (lists-at entry.actors caller actor.0 actor.1 actor.2) ∙ unlisted))
-      backwards (inr (inr group)) = by.1 group
+-- who is permitted is the operator, an actor, or a member of a group
+permits : (membership : Membership) (entry : Entry) (caller : List ℕ) (a b c : Bool) → bytes_eq caller operator ≡ a → lists entry.actors caller ≡ b → list_any (belongs membership caller) entry.groups ≡ c
+    → (a || (b || c)) ≡ true → Permitted membership entry caller
+unfolding Belongs
+permits membership entry caller true b c same actor group is = inl ((bytes_decides caller operator).0 same)
+permits membership entry caller false true c same actor group is = inr (inl (Contains-list_any bytes_eq (λ x y. (bytes_decides x y).0) entry.actors caller actor))
+permits membership entry caller false false c same actor group is = inr (inr (Any-from_list_any (belongs membership caller) entry.groups (group ∙ is)))
 
--- one is found
-pub some_found : (P : List ℕ → Type 0) (xs : List (List ℕ)) (i : ℕ) (x : List ℕ) → i < length xs → x ≡ get_or xs i x → P x → IsTrue true ↔ Any P xs
-some_found P xs i x within is holds = (λ _. (i, x, within, sym is, holds), λ _. refl)
+-- and each of these is
+permitted_is : (membership : Membership) (entry : Entry) (caller : List ℕ) → Permitted membership entry caller → is_permitted membership entry caller ≡ true
+unfolding Belongs
+permitted_is membership entry caller (inl same) = ap (λ b. b || (lists entry.actors caller || list_any (belongs membership caller) entry.groups)) ((bytes_decides caller operator).1 same)
+permitted_is membership entry caller (inr (inl actor)) = second (bytes_eq caller operator) _ (list_any (belongs membership caller) entry.groups) (lists-at entry.actors caller actor.0 actor.1 actor.2)
+permitted_is membership entry caller (inr (inr group)) = third (bytes_eq caller operator) (lists entry.actors caller) _ (list_any-from_Any (belongs membership caller) entry.groups group)
 
--- none is found so far
-abbrev pub NoneSoFar : (List ℕ → Type 0) → List (List ℕ) → ℕ → Type 0
-NoneSoFar P xs i = (k : ℕ) (x : List ℕ) → k < i → slice_index_or xs k x ≡ x → ¬ (P x)
-
--- one more that isn't it
-pub none_more : (P : List ℕ → Type 0) (xs : List (List ℕ)) (i : ℕ) (x : List ℕ) → x ≡ get_or xs i x → ¬ (P x) → i < length xs → NoneSoFar P xs i → NoneSoFar P xs (i + 1)
-none_more P xs i x is fails within so_far k y before at holds = by (cases_lt k i) where
-  same_at : (xs : List (List ℕ)) (i : ℕ) (x y : List ℕ) → i < length xs → slice_index_or xs i x ≡ slice_index_or xs i y
-  same_at [] i x y within = absurd (omega arith)
-  same_at (z ∷ zs) zero x y within = refl
-  same_at (z ∷ zs) (suc i) x y within = same_at zs i x y (omega arith)
-
-  same_place : i ≤ k → i ≡ k
-  same_place from = omega (arith, from, before)
-
-  by : (k < i) ⊎ (i ≤ k) → ⊥
-  by (inl earlier) = so_far k y earlier at holds
-  by (inr here) =
-      fails (subst P (sym at ∙ ap (λ n. slice_index_or xs n y) (sym (same_place here)) ∙ same_at xs i y x within ∙ sym is) holds)
-
--- none is found at all
-pub none_found : (P : List ℕ → Type 0) (xs : List (List ℕ)) (i : ℕ) → NoneSoFar P xs i → ¬ (i < length xs) → IsTrue false ↔ Any P xs
-none_found P xs i so_far over =
-    (λ f. absurd (true≢false (sym f)), λ any. absurd (so_far any.0 any.1 (omega (arith, over, any.2)) any.3 any.4))
+pub permission_decided : (membership : Membership) (entry : Entry) (caller : List ℕ) → IsTrue (is_permitted membership entry caller) ↔ Permitted membership entry caller
+permission_decided membership entry caller =
+    (permits membership entry caller (bytes_eq caller operator) (lists entry.actors caller) (list_any (belongs membership caller) entry.groups) refl refl refl, permitted_is membership entry caller)

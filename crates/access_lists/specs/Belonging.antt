@@ -9,6 +9,10 @@ abbrev pub is_member : List ℕ → Option Members → Bool
 is_member caller None = false
 is_member caller (Some members) = set.contains members.users caller || set.contains members.clients caller
 
+-- whether the caller belongs to the group of this name
+unfoldable pub belongs : Membership → List ℕ → List ℕ → Bool
+belongs membership caller group = is_member caller (finite.get membership.groups group)
+
 -- the caller belongs to the group of this name
 unfoldable pub Belongs : Membership → List ℕ → List ℕ → Type 0
-Belongs membership caller group = IsTrue (is_member caller (finite.get membership.groups group))
+Belongs membership caller group = IsTrue (belongs membership caller group)

@@ -5,6 +5,7 @@ use Rattle.std.specs.FinMap as finite
 use Rattle.std.specs.FinSet as set
 use Rattle.access_lists.specs.declared.member_kind.MemberKind.{MemberKind}
 use Rattle.access_lists.specs.declared.member_kind.MemberKind.TheVariants.{User, Client, Group}
+use Rattle.access_lists.specs.MapValues.{map_values}
 use Rattle.access_lists.specs.Members.{Members, GroupsByName, Membership}
 
 -- a name joins the members of a kind
@@ -18,6 +19,10 @@ abbrev pub left : MemberKind → List ℕ → Members → Members
 left User name members = record { users = set.remove members.users name; clients = members.clients; groups = members.groups }
 left Client name members = record { users = members.users; clients = set.remove members.clients name; groups = members.groups }
 left Group name members = record { users = members.users; clients = members.clients; groups = set.remove members.groups name }
+
+-- a name leaves the members of a kind in every group
+abbrev pub left_all : MemberKind → List ℕ → GroupsByName → GroupsByName
+left_all kind name groups = map_values (left kind name) groups
 
 -- groups after a change of the one of this name, where it is there
 abbrev pub changed : List ℕ → (Members → Members) → GroupsByName → GroupsByName

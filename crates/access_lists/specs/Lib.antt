@@ -1,6 +1,8 @@
 pub mod TextSets
 pub mod Acls
+pub mod MapValues
 pub mod Members
+pub mod MemberNames
 pub mod Belonging
 pub mod Permitted
 pub mod Strangers

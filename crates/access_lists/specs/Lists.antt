@@ -1,14 +1,18 @@
 -- What lists of users, clients and groups say.
-use Rattle.std.specs.Prelude.{List, [], ◌∷◌}
+use Rattle.std.specs.Prelude.{ℕ, List, [], ◌∷◌}
 use Rattle.std.specs.FinMap as finite
 use Rattle.std.specs.FinSet as set
 use Rattle.access_lists.specs.declared.lists.GroupLists.{GroupLists}
 use Rattle.access_lists.specs.declared.lists.GroupRow.{GroupRow}
 use Rattle.access_lists.specs.Members.{Members, GroupsByName, Membership}
 
+-- the members of these names: users, clients and groups
+abbrev pub members_of : List (List ℕ) → List (List ℕ) → List (List ℕ) → Members
+members_of users clients groups = record { users = set.from_list users; clients = set.from_list clients; groups = set.from_list groups }
+
 -- the members that a row lists
 abbrev pub members_in : GroupRow → Members
-members_in row = record { users = set.from_list row.users; clients = set.from_list row.clients; groups = set.from_list row.groups }
+members_in row = members_of row.users row.clients row.groups
 
 -- groups, and then those of these rows: a row takes the place of an earlier one of its name
 abbrev pub with_rows : GroupsByName → List GroupRow → GroupsByName

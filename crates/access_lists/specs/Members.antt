@@ -21,6 +21,10 @@ pub record Membership : Type 0 where
   pub clients : Names
   pub groups : GroupsByName
 
+-- an organisation that has nobody
+abbrev pub nobody : Membership
+nobody = record { users = set.empty; clients = set.empty; groups = finite.empty }
+
 -- numbers by names
 abbrev pub Rooms : Type 0
 Rooms = finite.FinMap text_cmp ℕ

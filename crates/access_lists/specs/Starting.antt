@@ -1,9 +1,15 @@
--- The access lists with which an organisation's containers start.
-use Rattle.std.specs.Prelude.{ℕ, List, [], ◌∷◌, codes}
+-- What an organisation starts with: its containers with their access lists, and its groups.
+use Rattle.std.specs.Prelude.{ℕ, Bool, bytes_eq, List, [], ◌∷◌, codes, Option}
+use Rattle.std.specs.List.{find}
+use Rattle.std.specs.FinMap as finite
+use Rattle.std.specs.FinSet as set
 use Rattle.access_lists.specs.declared.acl.Acl.{Acl}
 use Rattle.access_lists.specs.declared.acl.Entry.{Entry}
 use Rattle.access_lists.specs.declared.starting.Container.{Container}
 use Rattle.access_lists.specs.declared.starting.Container.TheVariants.{Clients, Containers, CookbookArtifacts, Cookbooks, Data, Environments, Groups, Nodes, Policies, PolicyGroups, Roles, Sandboxes}
+use Rattle.access_lists.specs.TextSets.{lists}
+use Rattle.access_lists.specs.Members.{Members, GroupsByName, Membership, nobody}
+use Rattle.access_lists.specs.Changes.{with_groups}
 
 -- the name of a container
 abbrev pub name_of : Container → List ℕ
@@ -19,6 +25,14 @@ name_of Policies = codes "policies"
 name_of PolicyGroups = codes "policy_groups"
 name_of Roles = codes "roles"
 name_of Sandboxes = codes "sandboxes"
+
+-- the containers, in the order of their names
+abbrev pub containers : List Container
+containers = Clients ∷ Containers ∷ CookbookArtifacts ∷ Cookbooks ∷ Data ∷ Environments ∷ Groups ∷ Nodes ∷ Policies ∷ PolicyGroups ∷ Roles ∷ Sandboxes ∷ []
+
+-- the container of this name, if there is one
+abbrev pub container_named : List ℕ → Option Container
+container_named name = find (λ container. bytes_eq name (name_of container)) containers
 
 -- the group `admins`
 abbrev pub A : List (List ℕ)
@@ -55,3 +69,24 @@ starting_list Policies = granting AU AKU AU AU A
 starting_list PolicyGroups = granting AU AKU AU AU A
 starting_list Roles = granting AU AKU AU AU A
 starting_list Sandboxes = granting AU AU AU A A
+
+-- the groups with which an organisation starts
+abbrev pub starting_groups : List (List ℕ)
+starting_groups = codes "admins" ∷ codes "billing-admins" ∷ codes "clients" ∷ codes "users" ∷ []
+
+-- whether a group is one of them
+abbrev pub is_starting_group : List ℕ → Bool
+is_starting_group name = lists starting_groups name
+
+-- a group that has no members
+abbrev pub no_members : Members
+no_members = record { users = set.empty; clients = set.empty; groups = set.empty }
+
+-- those groups, each without members
+abbrev pub groups_at_start : GroupsByName
+groups_at_start =
+    finite.insert (finite.insert (finite.insert (finite.insert finite.empty (codes "admins") no_members) (codes "billing-admins") no_members) (codes "clients") no_members) (codes "users") no_members
+
+-- what an organisation starts with: nobody, and those groups
+abbrev pub starting : Membership
+starting = with_groups groups_at_start nobody

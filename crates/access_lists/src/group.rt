@@ -2,12 +2,14 @@
 ghost use Rattle.std.specs.Prelude.{◌≡◌, ◌+◌, ◌<◌, ◌≤◌, Some, IfOk, OnOk};
 ghost use Rattle.access_lists.specs.Belonging.{is_member};
 ghost use Rattle.access_lists.specs.Changes.{joined, left};
-ghost use Rattle.access_lists.specs.Lists.{members_in};
+ghost use Rattle.doc_tree.specs.Valid.{InOrder};
+ghost use Rattle.access_lists.specs.Lists.{members_in, members_of};
+ghost use Rattle.access_lists.specs.MemberNames.{names_of};
 
 use crate::lists::GroupRow;
 use crate::member_kind::MemberKind;
 use crate::name_set::NameSet;
-use doc_tree::{NoMemory, Text};
+use doc_tree::{NoMemory, Text, Texts};
 use std::alloc::Global;
 use std::hash::RandomState;
 use std::marker::Model;
@@ -44,6 +46,46 @@ impl Group {
             clients: NameSet::of(alloc, hasher, &row.clients)?,
             groups: NameSet::of(alloc, hasher, &row.groups)?,
         })
+    }
+
+    /// The group of these users, clients and groups within it, of which it keeps copies.
+    pub fn with(
+        alloc: Global,
+        hasher: RandomState,
+        users: &[Text],
+        clients: &[Text],
+        groups: &[Text],
+    ) -> Result<Group, NoMemory>
+        ensures { IfOk result (λ group. group.members ≡ members_of users.now clients.now groups.now) }
+    {
+        Ok(Group {
+            users: NameSet::with(alloc, hasher, users)?,
+            clients: NameSet::with(alloc, hasher, clients)?,
+            groups: NameSet::with(alloc, hasher, groups)?,
+        })
+    }
+
+    /// An equal group with memory of its own, and room for no more.
+    pub(crate) fn copy(&self, alloc: Global) -> Result<Group, NoMemory>
+        ensures { IfOk result (λ group. group.members ≡ self.now.members) }
+    {
+        Ok(Group {
+            users: self.users.copy(alloc)?,
+            clients: self.clients.copy(alloc)?,
+            groups: self.groups.copy(alloc)?,
+        })
+    }
+
+    /// The names of its members of a kind, in the order of their bytes.
+    pub(crate) fn names(&self, alloc: Global, kind: MemberKind) -> Result<Texts, NoMemory>
+        ensures value { IfOk result (λ names. names ≡ names_of kind self.now.members) }
+        ensures order { IfOk result InOrder }
+    {
+        match kind {
+            MemberKind::User => self.users.names(alloc),
+            MemberKind::Client => self.clients.names(alloc),
+            MemberKind::Group => self.groups.names(alloc),
+        }
     }
 
     /// Whether a caller is one of its users or clients.

@@ -1,16 +1,19 @@
 //! The groups of an organisation, by their names.
-ghost use Rattle.std.specs.Prelude.{◌≡◌, ◌+◌, ◌<◌, ◌≤◌, IfOk, OnOk, IsTrue, is_some};
+ghost use Rattle.std.specs.Prelude.{ℕ, List, ◌≡◌, ◌+◌, ◌<◌, ◌≤◌, IfOk, OnOk, IsTrue, is_some};
 ghost use Rattle.std.specs.FinMap as finite;
 ghost use Rattle.indexmap.specs.IndexMap.{spare};
 ghost use Rattle.access_lists.specs.Belonging.{is_member};
-ghost use Rattle.access_lists.specs.Changes.{changed, joined, left};
+ghost use Rattle.doc_tree.specs.Valid.{InOrder};
+ghost use Rattle.access_lists.specs.Changes.{changed, joined, left, left_all};
 ghost use Rattle.access_lists.specs.Lists.{with_rows};
+ghost use Rattle.access_lists.specs.MemberNames.{members_named};
 ghost use Rattle.access_lists.specs.Rooms.{groups_seen, rooms_seen, room_of, OthersKeepRoom};
 
 use crate::group::Group;
 use crate::lists::GroupRow;
 use crate::member_kind::MemberKind;
-use doc_tree::{NoMemory, Text};
+use crate::text_set::TextSet;
+use doc_tree::{NoMemory, Text, Texts};
 use indexmap::IndexMap;
 use std::alloc::Global;
 use std::hash::RandomState;
@@ -40,6 +43,15 @@ impl Model for GroupMap {
 }
 
 impl GroupMap {
+    /// No groups, and no room for any. It takes no memory.
+    pub(crate) fn none(alloc: Global, hasher: RandomState) -> GroupMap
+        ensures { result.groups ≡ finite.empty }
+    {
+        GroupMap {
+            items: IndexMap::with_hasher(alloc, hasher),
+        }
+    }
+
     /// The groups of these rows.
     pub(crate) fn of(
         alloc: Global,
@@ -54,6 +66,39 @@ impl GroupMap {
             add(&mut items, row.name.as_text().copy(alloc)?, group)?;
         }
         Ok(GroupMap { items })
+    }
+
+    /// Equal groups with memory of their own, and room for no more.
+    pub(crate) fn copy(&self, alloc: Global) -> Result<GroupMap, NoMemory>
+        ensures { IfOk result (λ m. m.groups ≡ self.now.groups) }
+    {
+        Ok(GroupMap {
+            items: copy_items(alloc, &self.items)?,
+        })
+    }
+
+    /// The names of the groups, in the order of their bytes.
+    pub(crate) fn names(&self, alloc: Global) -> Result<Texts, NoMemory>
+        ensures value { IfOk result (λ names. names ≡ finite.keys self.now.groups) }
+        ensures order { IfOk result InOrder }
+    {
+        Ok(TextSet::of_copies(alloc, self.items.keys().as_slice())?.into_texts())
+    }
+
+    /// The names of a group's members of a kind, in the order of their bytes.
+    pub(crate) fn members(
+        &self,
+        alloc: Global,
+        name: &Text,
+        kind: MemberKind,
+    ) -> Result<Texts, NoMemory>
+        ensures value { IfOk result (λ names. names ≡ members_named kind (finite.get self.now.groups name.now)) }
+        ensures order { IfOk result InOrder }
+    {
+        match self.items.get(name) {
+            Some(group) => group.names(alloc, kind),
+            None => Ok(TextSet::new(alloc).into_texts()),
+        }
     }
 
     /// Whether a group is there.
@@ -125,6 +170,19 @@ impl GroupMap {
         group.leave(kind, member);
     }
 
+    /// Takes a member out of every group. It takes no memory.
+    pub(crate) fn leave_all(&mut self, kind: MemberKind, member: &Text)
+        ensures groups { self.new.groups ≡ left_all kind member.now self.old.groups }
+        ensures rooms { (name : List ℕ) → room_of self.old.rooms name ≤ room_of self.new.rooms name }
+        ensures spare { self.old.spare ≤ self.new.spare }
+    {
+        // Every group stays: `retain` reaches each where it stands.
+        self.items.retain(|_, group| {
+            group.leave(kind, member);
+            true
+        });
+    }
+
     /// Puts a group in, in place of one of its name. It takes no memory.
     pub(crate) fn put(&mut self, name: Text, group: Group)
         requires { 0 < self.old.spare }
@@ -143,6 +201,16 @@ impl GroupMap {
     {
         take(&mut self.items, name);
     }
+}
+
+fn copy_items(alloc: Global, items: &Hashed) -> Result<Hashed, NoMemory>
+    ensures { IfOk result (λ copy. groups_seen copy.entries ≡ groups_seen items.now.entries) }
+{
+    let mut made = IndexMap::with_capacity_and_hasher(alloc, items.len(), *items.hasher())?;
+    for (name, group) in items {
+        add(&mut made, name.copy(alloc)?, group.copy(alloc)?)?;
+    }
+    Ok(made)
 }
 
 fn add(items: &mut Hashed, name: Text, group: Group) -> Result<(), NoMemory>

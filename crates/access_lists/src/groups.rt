@@ -1,11 +1,16 @@
 //! The users, clients and groups of an organisation.
-ghost use Rattle.std.specs.Prelude.{◌≡◌, ◌+◌, ◌<◌, ◌≤◌, ◌↔◌, ◌||◌, Any, IfOk, IsTrue, OnOk, not, position, is_some, true, bytes_eq};
+ghost use Rattle.std.specs.Prelude.{ℕ, List, ◌≡◌, ◌+◌, ◌<◌, ◌≤◌, ◌||◌, IfOk, IsTrue, OnOk, not, position, is_some, true, bytes_eq};
+ghost use Rattle.std.specs.List.{list_any};
 ghost use Rattle.std.specs.FinMap as finite;
-ghost use Rattle.access_lists.specs.Belonging.{Belongs};
-ghost use Rattle.access_lists.specs.Changes.{changed, joined, left, with_user, without_user, with_client, without_client, with_groups};
+ghost use Rattle.doc_tree.specs.Valid.{InOrder};
+ghost use Rattle.access_lists.specs.Belonging.{belongs};
+ghost use Rattle.access_lists.specs.Changes.{changed, joined, left, left_all, with_user, without_user, with_client, without_client, with_groups};
 ghost use Rattle.access_lists.specs.Lists.{membership_in};
+ghost use Rattle.access_lists.specs.MemberNames.{names_in, members_named};
+ghost use Rattle.access_lists.specs.Members.{nobody};
 ghost use Rattle.access_lists.specs.Permitted.{operator};
 ghost use Rattle.access_lists.specs.Rooms.{room_of, OthersKeepRoom};
+ghost use Rattle.access_lists.specs.Starting.{no_members, starting};
 ghost use Rattle.access_lists.specs.Strangers as spec;
 
 use crate::acl::Entry;
@@ -14,7 +19,7 @@ use crate::group_map::GroupMap;
 use crate::lists::GroupLists;
 use crate::member_kind::MemberKind;
 use crate::name_set::NameSet;
-use doc_tree::{NoMemory, Text};
+use doc_tree::{NoMemory, Text, Texts};
 use std::alloc::Global;
 use std::hash::RandomState;
 use std::marker::Model;
@@ -56,6 +61,42 @@ impl Model for Groups {
 }
 
 impl Groups {
+    /// Nobody, and no room for anybody. It takes no memory.
+    pub fn none(alloc: Global, hasher: RandomState) -> Groups
+        ensures { result.membership ≡ nobody }
+    {
+        Groups {
+            users: NameSet::none(alloc, hasher),
+            clients: NameSet::none(alloc, hasher),
+            groups: GroupMap::none(alloc, hasher),
+        }
+    }
+
+    /// What an organisation starts with: no users, no clients, and the groups `admins`,
+    /// `billing-admins`, `clients` and `users`, each without members.
+    pub fn starting(alloc: Global, hasher: RandomState) -> Result<Groups, NoMemory>
+        ensures { IfOk result (λ groups. groups.membership ≡ starting) }
+    {
+        let mut groups = Groups::none(alloc, hasher);
+        groups.reserve(4)?;
+        groups.put_empty(alloc, hasher, "admins")?;
+        groups.put_empty(alloc, hasher, "billing-admins")?;
+        groups.put_empty(alloc, hasher, "clients")?;
+        groups.put_empty(alloc, hasher, "users")?;
+        Ok(groups)
+    }
+
+    // Puts in a group that has no members.
+    fn put_empty(&mut self, alloc: Global, hasher: RandomState, name: &str) -> Result<(), NoMemory>
+        requires { 0 < self.old.spare }
+        ensures membership { OnOk result (self.new.membership ≡ with_groups (finite.insert self.old.membership.groups name.now no_members) self.old.membership) }
+        ensures spare { self.old.spare ≤ self.new.spare + 1 }
+    {
+        let group = Group::with(alloc, hasher, &[], &[], &[])?;
+        self.put_group(Text::from_str(alloc, name)?, group);
+        Ok(())
+    }
+
     /// What the lists say. Of two groups of one name the later counts.
     pub fn build(alloc: Global, hasher: RandomState, lists: &GroupLists) -> Result<Groups, NoMemory>
         ensures { IfOk result (λ groups. groups.membership ≡ membership_in lists.now) }
@@ -65,6 +106,38 @@ impl Groups {
             clients: NameSet::of(alloc, hasher, &lists.clients)?,
             groups: GroupMap::of(alloc, hasher, lists.groups.as_slice())?,
         })
+    }
+
+    /// Equal users, clients and groups with memory of their own, and room for no more.
+    pub fn copy(&self, alloc: Global) -> Result<Groups, NoMemory>
+        ensures { IfOk result (λ groups. groups.membership ≡ self.now.membership) }
+    {
+        Ok(Groups {
+            users: self.users.copy(alloc)?,
+            clients: self.clients.copy(alloc)?,
+            groups: self.groups.copy(alloc)?,
+        })
+    }
+
+    /// The names of the users, of the clients or of the groups, in the order of their bytes.
+    pub fn names(&self, alloc: Global, kind: MemberKind) -> Result<Texts, NoMemory>
+        ensures value { IfOk result (λ names. names ≡ names_in kind self.now.membership) }
+        ensures order { IfOk result InOrder }
+    {
+        match kind {
+            MemberKind::User => self.users.names(alloc),
+            MemberKind::Client => self.clients.names(alloc),
+            MemberKind::Group => self.groups.names(alloc),
+        }
+    }
+
+    /// The names of a group's members of a kind, in the order of their bytes: none where there is no
+    /// such group.
+    pub fn members(&self, alloc: Global, group: &Text, kind: MemberKind) -> Result<Texts, NoMemory>
+        ensures value { IfOk result (λ names. names ≡ members_named kind (finite.get self.now.membership.groups group.now)) }
+        ensures order { IfOk result InOrder }
+    {
+        self.groups.members(alloc, group, kind)
     }
 
     /// Whether the organisation has a user, a client or a group of this name.
@@ -105,30 +178,27 @@ impl Groups {
         groups.iter().position(|name| !self.groups.has(name))
     }
 
-    fn is_actor(&self, name: &Text) -> bool
+    /// Whether a name is that of a user, of a client or of the operator. It takes no memory, and two
+    /// look-ups by hash at most.
+    pub fn is_actor(&self, name: &Text) -> bool
         ensures { result ≡ spec.is_actor self.now.membership name.now }
     {
         is_operator(name) || self.users.contains(name) || self.clients.contains(name)
     }
 
     /// Whether a caller belongs to a group. It takes no memory.
-    #[tactic(auto, unfolding(crate::specs::Belonging::Belongs))]
+    #[tactic(auto, unfolding(crate::specs::Belonging::belongs))]
     fn belongs(&self, caller: &Text, group: &Text) -> bool
-        ensures { IsTrue result ↔ Belongs self.now.membership caller.now group.now }
+        ensures { result ≡ belongs self.now.membership caller.now group.now }
     {
         self.groups.is_member(caller, group)
     }
 
     /// Whether a caller belongs to one of these groups. It takes no memory.
     pub(crate) fn belongs_to_any(&self, caller: &Text, groups: &[Text]) -> bool
-        ensures { IsTrue result ↔ Any (Belongs self.now.membership caller.now) groups.now }
+        ensures { result ≡ list_any (belongs self.now.membership caller.now) groups.now }
     {
-        for group in groups {
-            if self.belongs(caller, group) {
-                return true;
-            }
-        }
-        false
+        groups.iter().any(|group| self.belongs(caller, group))
     }
 
     /// Makes room for at least `count` further users, clients and groups.
@@ -212,6 +282,16 @@ impl Groups {
         ensures spare { self.new.spare ≡ self.old.spare }
     {
         self.groups.leave(group, kind, member);
+    }
+
+    /// A member leaves every group, as one that is deleted goes. It takes no memory, and one look-up by
+    /// hash for each group.
+    pub fn leave_all(&mut self, kind: MemberKind, member: &Text)
+        ensures membership { self.new.membership ≡ with_groups (left_all kind member.now self.old.membership.groups) self.old.membership }
+        ensures rooms { (name : List ℕ) → room_of self.old.rooms name ≤ room_of self.new.rooms name }
+        ensures spare { self.old.spare ≤ self.new.spare }
+    {
+        self.groups.leave_all(kind, member);
     }
 
     /// Puts a group in, in place of one of its name: a group may be made anew while a request is

@@ -2,9 +2,12 @@
 ghost use Rattle.std.specs.Prelude.{◌≡◌, ◌+◌, ◌<◌, ◌≤◌, IfOk, OnOk};
 ghost use Rattle.std.specs.FinSet as set;
 ghost use Rattle.indexmap.specs.IndexSet.{spare};
+ghost use Rattle.doc_tree.specs.Valid.{InOrder};
+ghost use Rattle.access_lists.specs.MemberNames.{listed_names};
 ghost use Rattle.access_lists.specs.NameSets.{seen};
 
-use doc_tree::{Names, NoMemory, Text};
+use crate::text_set::TextSet;
+use doc_tree::{Names, NoMemory, Text, Texts};
 use indexmap::IndexSet;
 use std::alloc::Global;
 use std::hash::RandomState;
@@ -33,6 +36,15 @@ impl Model for NameSet {
 }
 
 impl NameSet {
+    /// No names, and no room for any. It takes no memory.
+    pub(crate) fn none(alloc: Global, hasher: RandomState) -> NameSet
+        ensures { result.names ≡ set.empty }
+    {
+        NameSet {
+            items: IndexSet::with_hasher(alloc, hasher),
+        }
+    }
+
     /// The set of a list of names.
     pub(crate) fn of(alloc: Global, hasher: RandomState, names: &Names) -> Result<NameSet, NoMemory>
         ensures { IfOk result (λ s. s.names ≡ set.from_list names.now) }
@@ -42,6 +54,36 @@ impl NameSet {
             add(&mut items, name.as_text().copy(alloc)?)?;
         }
         Ok(NameSet { items })
+    }
+
+    /// The set of copies of some texts.
+    pub(crate) fn with(
+        alloc: Global,
+        hasher: RandomState,
+        names: &[Text],
+    ) -> Result<NameSet, NoMemory>
+        ensures { IfOk result (λ s. s.names ≡ set.from_list names.now) }
+    {
+        let mut items = IndexSet::with_capacity_and_hasher(alloc, names.len(), hasher)?;
+        for name in names {
+            add(&mut items, name.copy(alloc)?)?;
+        }
+        Ok(NameSet { items })
+    }
+
+    /// An equal set with memory of its own, and room for no more.
+    pub(crate) fn copy(&self, alloc: Global) -> Result<NameSet, NoMemory>
+        ensures { IfOk result (λ s. s.names ≡ self.now.names) }
+    {
+        NameSet::with(alloc, *self.items.hasher(), self.items.as_slice())
+    }
+
+    /// The names, in the order of their bytes.
+    pub(crate) fn names(&self, alloc: Global) -> Result<Texts, NoMemory>
+        ensures value { IfOk result (λ names. names ≡ listed_names self.now.names) }
+        ensures order { IfOk result InOrder }
+    {
+        Ok(TextSet::of_copies(alloc, self.items.as_slice())?.into_texts())
     }
 
     /// Whether a name is in the set. It is looked for by its hash.

@@ -1,7 +1,7 @@
 //! Who may do what.
-ghost use Rattle.std.specs.Prelude.{◌↔◌, IsTrue};
+ghost use Rattle.std.specs.Prelude.{◌≡◌, ◌↔◌, IsTrue};
 ghost use Rattle.access_lists.specs.Acls.{entry_of};
-ghost use Rattle.access_lists.specs.Permitted.{Permitted};
+ghost use Rattle.access_lists.specs.Permitted.{Permitted, is_permitted};
 
 use crate::acl::{Acl, Entry};
 use crate::groups::{Groups, is_operator};
@@ -12,13 +12,14 @@ use doc_tree::Text;
 /// `pivotal`, or one of the entry's actors, or belongs to one of its groups. It takes no memory, and as
 /// many look-ups by hash as the entry has groups, whatever the number of their members.
 pub fn permitted(groups: &Groups, acl: &Acl, perm: Perm, caller: &Text) -> bool
-    ensures { IsTrue result ↔ Permitted groups.now.membership (entry_of perm acl.now) caller.now }
+    ensures set { IsTrue result ↔ Permitted groups.now.membership (entry_of perm acl.now) caller.now }
+    ensures value { result ≡ is_permitted groups.now.membership (entry_of perm acl.now) caller.now }
 {
     permitted_by(groups, acl.entry(perm), caller)
 }
 
 fn permitted_by(groups: &Groups, entry: &Entry, caller: &Text) -> bool
-    ensures { IsTrue result ↔ Permitted groups.now.membership entry.now caller.now }
+    ensures { result ≡ is_permitted groups.now.membership entry.now caller.now }
 {
     if is_operator(caller) {
         return true;

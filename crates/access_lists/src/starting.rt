@@ -1,5 +1,6 @@
-//! The access lists with which containers start.
-ghost use Rattle.std.specs.Prelude.{◌≡◌, [], ◌∷◌, ◌++◌, IfOk, OnOk};
+//! What an organisation starts with: its containers with their access lists, and its groups.
+ghost use Rattle.std.specs.Prelude.{◌≡◌, [], ◌∷◌, ◌++◌, IfOk, OnOk, bytes_eq};
+ghost use Rattle.std.specs.List.{find};
 ghost use Rattle.access_lists.specs.Starting as spec;
 ghost use Rattle.access_lists.specs.Listed.{listed};
 
@@ -38,6 +39,33 @@ enum Listed {
 }
 
 impl Container {
+    /// The containers, in the order of the bytes of their names.
+    pub fn all() -> [Container; 12]
+        ensures { result ≡ spec.containers }
+    {
+        [
+            Container::Clients,
+            Container::Containers,
+            Container::CookbookArtifacts,
+            Container::Cookbooks,
+            Container::Data,
+            Container::Environments,
+            Container::Groups,
+            Container::Nodes,
+            Container::Policies,
+            Container::PolicyGroups,
+            Container::Roles,
+            Container::Sandboxes,
+        ]
+    }
+
+    /// The container of this name, if there is one.
+    pub fn named(name: &str) -> Option<Container>
+        ensures { result ≡ spec.container_named name.now }
+    {
+        named_among(&Container::all(), name)
+    }
+
     /// The container's name.
     pub fn name(self) -> &'static str
         ensures { result.now ≡ spec.name_of self }
@@ -57,6 +85,23 @@ impl Container {
             Container::Sandboxes => "sandboxes",
         }
     }
+}
+
+/// The first of these containers that has this name.
+fn named_among(containers: &[Container], name: &str) -> Option<Container>
+    ensures { result ≡ find (λ container. bytes_eq name.now (spec.name_of container)) containers.now }
+{
+    containers
+        .iter()
+        .find(|container| name == container.name())
+        .copied()
+}
+
+/// Whether a group is one of those with which an organisation starts.
+pub fn is_starting_group(name: &str) -> bool
+    ensures { result ≡ spec.is_starting_group name.now }
+{
+    matches!(name, "admins" | "billing-admins" | "clients" | "users")
 }
 
 /// The access list with which a container starts: no actors, and of the groups `admins`, `clients` and

@@ -334,20 +334,7 @@ fn letter(group: &str) -> &'static str {
 
 fn all_letters(alloc: Global) -> Result<String, NoMemory> {
     let mut told = String::new(alloc);
-    for container in [
-        Container::Clients,
-        Container::Containers,
-        Container::CookbookArtifacts,
-        Container::Cookbooks,
-        Container::Data,
-        Container::Environments,
-        Container::Groups,
-        Container::Nodes,
-        Container::Policies,
-        Container::PolicyGroups,
-        Container::Roles,
-        Container::Sandboxes,
-    ] {
+    for container in Container::all() {
         told.push_str(letters(alloc, container)?.as_str())?;
         told.push_str("\n")?;
     }
@@ -372,5 +359,12 @@ fn containers_start_with_their_lists(rt: HostRuntime) -> Result<(), Fail> {
          roles: AU ACU AU AU A\n\
          sandboxes: AU AU AU A A\n"
     );
+    Ok(())
+}
+
+#[test]
+fn a_container_is_found_by_its_whole_name(rt: HostRuntime) -> Result<(), Fail> {
+    let found = Container::named("policy_groups");
+    assert!(rt; found == Some(Container::PolicyGroups) && Container::named("policy").is_none());
     Ok(())
 }

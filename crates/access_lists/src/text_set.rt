@@ -1,8 +1,9 @@
 //! Sets of texts.
 ghost use Rattle.std.specs.Prelude.{ℕ, List, [], ◌∷◌, ◌++◌, ◌≡◌, ◌↔◌, not, bytes_eq, IsTrue, IfOk};
+ghost use Rattle.doc_tree.specs.Valid.{InOrder};
 ghost use Rattle.access_lists.specs.TextSets.{IsRising, in_order, lists, without};
 
-use doc_tree::{NoMemory, Text};
+use doc_tree::{NoMemory, Text, Texts};
 use std::alloc::Global;
 use std::marker::Model;
 
@@ -43,6 +44,22 @@ impl TextSet {
         items.sort_unstable();
         items.dedup();
         TextSet { items }
+    }
+
+    /// Copies of some texts, in any order and with any repeats.
+    pub(crate) fn of_copies(alloc: Global, texts: &[Text]) -> Result<TextSet, NoMemory>
+        ensures { IfOk result (λ set. set ≡ in_order texts.now) }
+    {
+        Ok(TextSet::of(copies(alloc, texts, 0)?))
+    }
+
+    /// The texts in the order of their bytes, as a list.
+    pub fn into_texts(self) -> Texts
+        ensures value { result ≡ self }
+        ensures order { InOrder result }
+    {
+        let TextSet { items } = self;
+        Texts::of(items)
     }
 
     /// The texts in the order of their bytes, as a slice that borrows them.

@@ -69,7 +69,8 @@ impl TextSet {
     }
 }
 
-fn texts_tree(alloc: Global, texts: &[Text]) -> Result<Tree, NoMemory>
+/// The list of these texts.
+pub fn texts_tree(alloc: Global, texts: &[Text]) -> Result<Tree, NoMemory>
     ensures { IfOk result (λ tree. doc_of tree ≡ spec.texts_doc texts.now) }
 {
     let mut trees = Trees::with_capacity(alloc, texts.len())?;

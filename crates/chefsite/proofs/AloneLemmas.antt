@@ -3,6 +3,7 @@ use Rattle.std.proofs.Common.{◌≡◌, List, [], ◌∷◌, ◌++◌, None, ma
 use Rattle.std.specs.List.{flat_map}
 use Rattle.org_core.specs.States.{State}
 use Rattle.org_machine.specs.Alone.{Exchange, Alone, RunsAlone, asked_in, own, nobody, replies_alone}
+use Rattle.org_machine.proofs.PermittingLemmas.{all_permitted}
 use Rattle.http_wire.specs.Message.{Message}
 use Rattle.http_wire.specs.Requests.{request_of}
 use Rattle.http_wire.specs.Replies.{reply_text}
@@ -23,6 +24,7 @@ pub answered : (ms : List Message) (es : List Exchange) → map (λ e. e.request
 answered ms es requests alone = record {
   requests = requests;
   alone = alone;
+  permitted = λ name. all_permitted None (own name es) (alone.each name);
   bytes = λ name. texts_alone None (own name es) (alone.each name);
   worlds = λ name others there same.
       texts_alone None (own name others) (there.each name)

@@ -1,5 +1,6 @@
 -- What a change of one organisation does to the states that a shard keeps.
 use Rattle.std.proofs.Common.{◌≡◌, ◌≢◌, ℕ, zero, suc, ◌<◌, inl, inr, ◌⊎◌, Bool, true, false, cond, List, [], ◌∷◌, length, set, get_or, Option, Some, None, Result, Ok, Err, IsOk, OnOk, sym, ap, subst, refl, ◌∙◌, arith, length-set}
+use Rattle.std.specs.Bool.{then_some}
 use Rattle.std.specs.List.{slice_get}
 use Rattle.std.specs.Option.{option_map_or, ForSome}
 use Rattle.std.proofs.lemmas.Bool.{cases_eq, false_from_ne_true}
@@ -104,6 +105,13 @@ stays_there down request state there gone = there gone
 -- one entry alike is the other
 some_is : {X : Type 0} (x y : X) → Some x ≡ Some y → x ≡ y
 some_is x y same = cc
+
+-- a pair that comes back is the one that was given
+pub given-back : (b : Bool) (key k : List ℕ) (state s : Kept) → then_some {T = List ℕ × Kept} b (key, state) ≡ Some (k, s) → (k ≡ key) × (s ≡ state)
+given-back true key k state s is =
+    let pair = some_is {X = List ℕ × Kept} (key, state) (k, s) is in
+    (sym (ap (λ (p : List ℕ × Kept). p.0) pair), sym (ap (λ (p : List ℕ × Kept). p.1) pair))
+given-back false key k state s is = let none : ⊥ = cc is in absurd none
 
 -- under one name: what was written is there, and any other as before
 there_under : (own : Bool) (before now : Option Kept) (new : Kept)

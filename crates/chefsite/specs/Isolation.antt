@@ -3,6 +3,7 @@ use Rattle.std.specs.Prelude.{◌≡◌, ◌≢◌, ℕ, List, [], ◌++◌, map
 use Rattle.std.specs.List.{flat_map}
 use Rattle.std.specs.Io.KnownBytes.{append_known, prepend_known, IsAtEnd}
 use Rattle.org_machine.specs.Alone.{Exchange, Asked, Alone, asked_in, own, nobody, replies_alone}
+use Rattle.org_machine.specs.Permitting.{ArePermittedExactly}
 use Rattle.http_wire.specs.Message.{Message}
 use Rattle.http_wire.specs.Splits.{Splits, TakesAll, place_after}
 use Rattle.http_wire.specs.Requests.{request_of}
@@ -25,6 +26,8 @@ bytes_alone asked = flat_map reply_text (replies_alone None asked)
 pub record Answers (messages : List Message) (exchanges : List Exchange) : Type 0 where
   pub requests : map (λ e. e.request) exchanges ≡ map request_of messages
   pub alone : Alone nobody exchanges
+  -- each request of an organisation is permitted exactly by its lists: 403 exactly where they don't permit what it needs
+  pub permitted : (name : List ℕ) → ArePermittedExactly None (own name exchanges)
   -- so the bytes answered to an organisation are those of the small machine, whatever the others asked
   pub bytes : (name : List ℕ) → bytes_to name exchanges ≡ bytes_alone (map asked_in (own name exchanges))
   -- and two worlds that agree on its own requests and on what befell them give it equal bytes

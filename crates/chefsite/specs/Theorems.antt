@@ -1,7 +1,8 @@
 -- The isolation theorem. Begin here.
 --
 -- For every stream of requests, however the organisations' requests interleave, the bytes answered to each
--- organisation are those of a small machine given that organisation's requests alone.
+-- organisation are those of a small machine given that organisation's requests alone, and each request is
+-- permitted exactly by the organisation's access lists.
 --
 -- It is part of `Answered` below, which is part of `Ran`, the one contract of `run` and `once`. The words that it
 -- stands on:
@@ -14,6 +15,8 @@
 --   RunsAlone, Alone           org_machine/specs/Alone.antt     the replies are the small machine's: to one organisation, to each
 --   mark_of, answer, after     org_machine/specs/Marks.antt     what befell a request, the reply to it and the state after it
 --   step                       org_machine/specs/Steps.antt     one request of one organisation
+--   ArePermittedExactly        org_machine/specs/Permitting.antt  403 comes exactly where the lists don't permit what a request needs
+--   Permitted                  access_lists/specs/Permitted.antt  who may do what
 --   bytes_to, bytes_alone      specs/Isolation.antt             the bytes answered to an organisation, and the small machine's
 --   Answers                    specs/Isolation.antt             one reply to each message, and to each organisation the bytes that it would get alone
 --   IsAnswered and its kin     specs/Isolation.antt             what a run read, what it answered and what it wrote

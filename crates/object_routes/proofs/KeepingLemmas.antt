@@ -1,6 +1,7 @@
 -- What these groups do keeps the conditions of an organisation's objects.
 use Rattle.std.proofs.Common.{◌≡◌, ℕ, List, [], ◌∷◌, Bool, true, false, cond, not, ◌&&◌, IsTrue, IsFalse, IfSome, Option, Some, None, is_some, option_and_then, Result, Ok, Err, bytes_eq, codes, refl, sym, ap, subst, ◌∙◌}
 use Rattle.std.proofs.lemmas.Bool.{and_parts}
+use Rattle.access_lists.specs.declared.starting.Container.TheVariants as container
 use Rattle.std.proofs.lemmas.Option.{same_Some}
 use Rattle.std.specs.Cmp.Lexicographic.{bytes_decides}
 use Rattle.std.specs.Ordering.{eq_by_cmp}
@@ -22,9 +23,11 @@ use Rattle.route_table.specs.declared.verbs.Verb.TheVariants.{Get, Post, Put, De
 use Rattle.org_core.specs.Bodies.{document_in}
 use Rattle.org_core.specs.Collections.{kind_in}
 use Rattle.org_core.specs.Contexts.{Context}
+use Rattle.org_core.specs.Creating.{with_list}
 use Rattle.org_core.specs.Conditions.{IsNamed, IsItem, IsStored, MeetsConditions}
 use Rattle.org_core.specs.Keeping.{LeadsToConditions, KeepsConditions}
 use Rattle.org_core.specs.Moves.{after_moves}
+use Rattle.org_core.specs.Named.{text_of}
 use Rattle.org_core.specs.Refusals.{refuses}
 use Rattle.org_core.specs.States.{State, has_object}
 use Rattle.org_core.specs.declared.collections.Collection.{Collection}
@@ -38,11 +41,12 @@ use Rattle.org_core.specs.declared.routes.DataRoute.TheVariants as data_route
 use Rattle.org_core.specs.declared.routes.ObjectsRoute.{ObjectsRoute}
 use Rattle.org_core.specs.declared.routes.ObjectsRoute.TheVariants.{All, One}
 use Rattle.org_core.proofs.ConditionsLemmas.{same_keys, keeps_first, put_keeps, take_out_keeps, bag_removal_keeps, one_bag}
-use Rattle.object_routes.specs.Bodies.{or_bad_field, object_said, object_in_body}
+use Rattle.org_core.specs.Bodies.{or_bad_field, object_said, object_in_body}
 use Rattle.object_routes.specs.DataBags.{data_rules, data_asked, post_item, put_item, id_of, lacks_bag, lacks_item}
-use Rattle.object_routes.specs.Objects.{objects_rules, objects_asked, text_of, name_of, put_one, is_fixed}
+use Rattle.object_routes.specs.Objects.{objects_rules, objects_asked, name_of, put_one, is_fixed, creation, removal}
 use Rattle.object_routes.specs.Operations.{creating, replacing, creating_bag, creating_item, replacing_item}
-use Rattle.object_routes.specs.Organisations.{organisation_rules, creation, default_environment}
+use Rattle.object_routes.specs.Organisations.{organisation_rules, default_environment}
+use Rattle.object_routes.specs.Organisations as organisations
 use Rattle.object_routes.specs.declared.operations.DataOperation.{DataOperation}
 use Rattle.object_routes.specs.declared.operations.DataOperation.TheVariants as bags
 use Rattle.object_routes.specs.declared.operations.ObjectsOperation.{ObjectsOperation}
@@ -71,10 +75,10 @@ other_environment name free = same_environment name _ refl free
 -- ---- organisations
 
 -- a new organisation has the environment `_default` alone
-pub new_keeps : MeetsConditions (after_moves creation None)
+pub new_keeps : MeetsConditions (after_moves organisations.creation None)
 new_keeps = keeps_first default_environment (refl, refl)
 
-created : (state : State) → refuses AlreadyExists (is_some state) ≡ None → MeetsConditions (after_moves creation state)
+created : (state : State) → refuses AlreadyExists (is_some state) ≡ None → MeetsConditions (after_moves organisations.creation state)
 created None new = new_keeps
 created (Some there) new = cc
 
@@ -195,6 +199,29 @@ put_in : (collection : Collection) (state : State) (name : List ℕ) (object : D
 put_in collection state name object meets this =
     put_keeps state (key (kind_in collection) name) object meets (stored_in collection name object this) (λ bag id named same. absurd (no_item_in collection name (item_name bag id) same))
 
+-- beside the object its list is put in, and of a client its name: the objects are as the one put leaves them
+created_in : (collection : Collection) (context : Context) (state : State) (name : List ℕ) (object : Doc)
+    → MeetsConditions (after_moves (move.Put (key (kind_in collection) name) object ∷ []) state) → MeetsConditions (after_moves (creation collection context name object) state)
+created_in Nodes context None name object meets = tt
+created_in Nodes context (Some o) name object meets = meets
+created_in Roles context None name object meets = tt
+created_in Roles context (Some o) name object meets = meets
+created_in Environments context None name object meets = tt
+created_in Environments context (Some o) name object meets = meets
+created_in Clients context None name object meets = tt
+created_in Clients context (Some o) name object meets = meets
+
+removed_in : (collection : Collection) (state : State) (name : List ℕ)
+    → MeetsConditions (after_moves (move.TakeOut (key (kind_in collection) name) ∷ []) state) → MeetsConditions (after_moves (removal collection name) state)
+removed_in Nodes None name meets = tt
+removed_in Nodes (Some o) name meets = meets
+removed_in Roles None name meets = tt
+removed_in Roles (Some o) name meets = meets
+removed_in Environments None name meets = tt
+removed_in Environments (Some o) name meets = meets
+removed_in Clients None name meets = tt
+removed_in Clients (Some o) name meets = meets
+
 -- nor bags
 no_bag_in : (collection : Collection) (name bag : List ℕ) → eq_by_cmp key_cmp (key kinds.Bag bag) (key (kind_in collection) name) ≡ false
 no_bag_in Nodes name bag = refl
@@ -216,11 +243,13 @@ not_refused refusal false is = refl
 objects_do : (collection : Collection) (context : Context) (operation : ObjectsOperation) → MeetsConditions context.state → WasRead (kind_in collection) operation
     → (objects_rules collection).own_refusal context operation ≡ None → LeadsToConditions context.state ((objects_rules collection).does context operation)
 objects_do collection context objects.List meets read refused = meets
-objects_do collection context (objects.Create object) meets read refused = put_in collection context.state (name_of object) object meets (new_in collection object read)
+objects_do collection context (objects.Create object) meets read refused =
+    created_in collection context context.state (name_of object) object (put_in collection context.state (name_of object) object meets (new_in collection object read))
 objects_do collection context (objects.Show name) meets read refused = meets
 objects_do collection context (objects.Replace name object) meets read refused = put_in collection context.state name object meets (again_in collection name object read.0 read.1)
 objects_do collection context (objects.Remove name) meets read refused =
-    take_out_keeps context.state (key (kind_in collection) name) meets (no_bag_in collection name) (not_default collection name (not_refused NotAllowed (is_fixed collection name) refused))
+    removed_in collection context.state name
+    (take_out_keeps context.state (key (kind_in collection) name) meets (no_bag_in collection name) (not_default collection name (not_refused NotAllowed (is_fixed collection name) refused)))
 
 pub objects_keep : (collection : Collection) → KeepsConditions (objects_rules collection)
 objects_keep collection context route request operation meets asked lacks refused =
@@ -310,11 +339,18 @@ item_found bag id state found =
     let parts = and_parts (is_name bag && is_name id) (has_object state kinds.Bag bag && has_object state kinds.Item (item_name bag id)) (not_false _ found) in
     ((and_parts (is_name bag) (is_name id) parts.0).0, (and_parts (has_object state kinds.Bag bag) (has_object state kinds.Item (item_name bag id)) parts.1).0)
 
+-- beside a bag its list is put in
+bag_put_in : (context : Context) (state : State) (name : List ℕ) (object : Doc) → MeetsConditions (after_moves (move.Put (key kinds.Bag name) object ∷ []) state)
+    → MeetsConditions (after_moves (with_list container.Data context kinds.Bag name object) state)
+bag_put_in context None name object meets = tt
+bag_put_in context (Some o) name object meets = meets
+
 data_do : (context : Context) (operation : DataOperation) → MeetsConditions context.state → DataWasRead operation → data_rules.lacks context operation ≡ false
     → LeadsToConditions context.state (data_rules.does context operation)
 data_do context bags.ListBags meets read found = meets
 data_do context (bags.CreateBag object) meets read found =
-    put_keeps context.state (key kinds.Bag (name_of object)) object meets (named_new kinds.Bag object refl refl read) (λ bag id named same. absurd (item_is kinds.Bag (ap (λ (k : Key). k.kind) same) refl))
+    bag_put_in context context.state (name_of object) object
+    (put_keeps context.state (key kinds.Bag (name_of object)) object meets (named_new kinds.Bag object refl refl read) (λ bag id named same. absurd (item_is kinds.Bag (ap (λ (k : Key). k.kind) same) refl)))
 data_do context (bags.ListItems bag) meets read found = meets
 data_do context (bags.CreateItem bag item) meets read found =
     let there = bag_found bag context.state found in

@@ -1,1 +1,4 @@
+pub mod AppendLemmas
 pub mod KeepingLemmas
+pub mod OrderlyLemmas
+pub mod PlainLemmas

@@ -1,5 +1,6 @@
 -- The routes of data bags and their items.
 use Rattle.std.specs.Prelude.{Bool, true, false, not, ◌&&◌, ℕ, List, [], ◌∷◌, ◌++◌, map, Option, Some, None, codes, Result, Ok, Err}
+use Rattle.access_lists.specs.declared.starting.Container.TheVariants as container
 use Rattle.doc_tree.specs.Doc.{Doc, words}
 use Rattle.doc_tree.specs.Name.{is_name}
 use Rattle.doc_tree.specs.declared.kind.Kind.TheVariants as kinds
@@ -11,25 +12,25 @@ use Rattle.org_core.specs.declared.moves.Move.{Move}
 use Rattle.org_core.specs.declared.moves.Move.TheVariants as move
 use Rattle.org_core.specs.declared.needs.Need.{Need}
 use Rattle.org_core.specs.declared.needs.Need.TheVariants.{Listed}
-use Rattle.org_core.specs.declared.needs.Permission.TheVariants as permission
+use Rattle.access_lists.specs.declared.perm.Perm.TheVariants as permission
 use Rattle.org_core.specs.declared.requests.Body.{Body}
 use Rattle.org_core.specs.declared.routes.DataRoute.{DataRoute}
 use Rattle.org_core.specs.declared.routes.DataRoute.TheVariants.{Bags, Bag, Item}
 use Rattle.org_core.specs.declared.refusals.Refusal.{Refusal}
 use Rattle.org_core.specs.declared.refusals.Refusal.TheVariants.{NotAllowed, AlreadyExists}
-use Rattle.org_core.specs.Bodies.{document_in}
 use Rattle.org_core.specs.Contexts.{Context}
+use Rattle.org_core.specs.Creating.{created_by, with_list}
 use Rattle.org_core.specs.Outcomes.{Told, Decided, shows, does_by, tells, reads}
 use Rattle.org_core.specs.Refusals.{refuses}
-use Rattle.org_core.specs.Replies.{one_key, paths_behind}
+use Rattle.org_core.specs.Named.{named_by}
+use Rattle.org_core.specs.Replies.{one_key, org_uri, paths_behind}
 use Rattle.org_core.specs.Rules.{Rules}
 use Rattle.org_core.specs.States.{State, objects_of, has_object}
 use Rattle.object_routes.specs.declared.operations.DataOperation.{DataOperation}
 use Rattle.object_routes.specs.declared.operations.DataOperation.TheVariants as operation
-use Rattle.object_routes.specs.Bodies.{object_in_body, absent}
-use Rattle.object_routes.specs.Objects.{named_by, name_of, lacks_named, found, listed, created_under, replaced, removed}
+use Rattle.org_core.specs.Bodies.{document_in, object_in_body, absent}
+use Rattle.object_routes.specs.Objects.{name_of, lacks_named, found, listed, replaced, removed_by}
 use Rattle.object_routes.specs.Operations.{creating_bag, creating_item, replacing_item}
-use Rattle.object_routes.specs.Organisations.{org_uri}
 
 -- the front of the paths of data bags
 abbrev pub bags_front : List ℕ → List ℕ
@@ -129,9 +130,9 @@ data_refusal context (operation.RemoveItem bag id) = None
 abbrev pub items_listed : List ℕ → List ℕ → State → Told
 items_listed org bag state = shows (paths_behind (bags_front org ++ item_front bag) (ids_in bag (objects_of state)))
 
--- each of a bag's items goes, and then the bag
+-- each of a bag's items goes, and then the bag with its access list
 abbrev pub bag_removal : List ℕ → Objects → List Move
-bag_removal bag objects = map (λ id. move.TakeOut (key kinds.Item (item_name bag id))) (ids_in bag objects) ++ move.TakeOut (key kinds.Bag bag) ∷ []
+bag_removal bag objects = map (λ id. move.TakeOut (key kinds.Item (item_name bag id))) (ids_in bag objects) ++ move.TakeOut (key kinds.Bag bag) ∷ move.TakeList (key kinds.Bag bag) ∷ []
 
 -- a bag goes with all its items: 200 with its name
 abbrev pub bag_removed : List ℕ → State → Decided
@@ -140,13 +141,13 @@ bag_removed bag state = does_by (shows (one_key (codes "name") (words bag))) (ba
 -- what is done
 abbrev pub data_does : Context → DataOperation → Decided
 data_does context operation.ListBags = tells (listed (bags_front context.org) kinds.Bag context.state)
-data_does context (operation.CreateBag object) = created_under (bags_front context.org) kinds.Bag (name_of object) object
+data_does context (operation.CreateBag object) = created_by (bags_front context.org ++ name_of object) (with_list container.Data context kinds.Bag (name_of object) object)
 data_does context (operation.ListItems bag) = tells (items_listed context.org bag context.state)
-data_does context (operation.CreateItem bag item) = created_under (bags_front context.org) kinds.Item (item_name bag (id_of item)) item
+data_does context (operation.CreateItem bag item) = created_by (bags_front context.org ++ item_name bag (id_of item)) (move.Put (key kinds.Item (item_name bag (id_of item))) item ∷ [])
 data_does context (operation.RemoveBag bag) = bag_removed bag context.state
 data_does context (operation.ShowItem bag id) = reads (shows (found kinds.Item (item_name bag id) context.state))
 data_does context (operation.ReplaceItem bag id item) = replaced kinds.Item (item_name bag id) item
-data_does context (operation.RemoveItem bag id) = removed kinds.Item (item_name bag id) context.state
+data_does context (operation.RemoveItem bag id) = removed_by (move.TakeOut (key kinds.Item (item_name bag id)) ∷ []) kinds.Item (item_name bag id) context.state
 
 -- the rules of these routes
 abbrev pub data_rules : Rules DataRoute DataOperation

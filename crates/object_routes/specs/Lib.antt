@@ -1,4 +1,3 @@
-pub mod Bodies
 pub mod Operations
 pub mod Organisations
 pub mod Objects

@@ -1,8 +1,8 @@
 -- The routes of nodes, roles, environments and clients: one rule for all four collections, and what
 -- one of them adds.
 use Rattle.std.specs.Prelude.{Bool, true, false, not, ◌||◌, ◌&&◌, ℕ, List, [], ◌∷◌, ◌++◌, Option, Some, None, codes, bytes_eq, Result, Ok, Err}
-use Rattle.doc_tree.specs.Doc.{Doc, null, boolean, whole, words, list, dict}
-use Rattle.doc_tree.specs.Part.{part_at}
+use Rattle.access_lists.specs.Strangers.{is_actor}
+use Rattle.doc_tree.specs.Doc.{Doc, null}
 use Rattle.doc_tree.specs.Name.{is_name}
 use Rattle.doc_tree.specs.declared.kind.Kind.{Kind}
 use Rattle.doc_tree.specs.declared.kind.Kind.TheVariants as kinds
@@ -11,46 +11,33 @@ use Rattle.route_table.specs.declared.verbs.Verb.{Verb}
 use Rattle.route_table.specs.declared.verbs.Verb.TheVariants.{Get, Post, Put, Delete, Other}
 use Rattle.org_core.specs.declared.collections.Collection.{Collection}
 use Rattle.org_core.specs.declared.collections.Collection.TheVariants.{Nodes, Roles, Environments, Clients}
+use Rattle.org_core.specs.declared.moves.Move.{Move}
 use Rattle.org_core.specs.declared.moves.Move.TheVariants as move
 use Rattle.org_core.specs.declared.needs.Need.{Need}
 use Rattle.org_core.specs.declared.needs.Need.TheVariants.{Listed}
-use Rattle.org_core.specs.declared.needs.Permission.TheVariants as permission
+use Rattle.access_lists.specs.declared.perm.Perm.TheVariants as permission
 use Rattle.org_core.specs.declared.requests.Body.{Body}
 use Rattle.org_core.specs.declared.routes.ObjectsRoute.{ObjectsRoute}
 use Rattle.org_core.specs.declared.routes.ObjectsRoute.TheVariants.{All, One}
 use Rattle.org_core.specs.declared.refusals.Refusal.{Refusal}
 use Rattle.org_core.specs.declared.refusals.Refusal.TheVariants.{NotAllowed, AlreadyExists}
-use Rattle.org_core.specs.Bodies.{document_in}
-use Rattle.org_core.specs.Collections.{kind_in, segment_of}
+use Rattle.org_core.specs.Collections.{kind_in, segment_of, container_of}
 use Rattle.org_core.specs.Contexts.{Context}
-use Rattle.org_core.specs.Outcomes.{Told, Decided, shows, creates, does_by, tells, reads}
+use Rattle.org_core.specs.Creating.{created_by, with_list}
+use Rattle.org_core.specs.Named.{named_by}
+use Rattle.org_core.specs.Outcomes.{Told, Decided, shows, does_by, tells, reads}
 use Rattle.org_core.specs.Refusals.{refuses}
-use Rattle.org_core.specs.Replies.{paths_behind}
+use Rattle.org_core.specs.Replies.{org_uri, paths_behind}
 use Rattle.org_core.specs.Rules.{Rules}
-use Rattle.org_core.specs.States.{State, objects_of, object_in, has_object}
+use Rattle.org_core.specs.States.{State, objects_of, object_in, has_object, membership_of}
 use Rattle.object_routes.specs.declared.operations.ObjectsOperation.{ObjectsOperation}
 use Rattle.object_routes.specs.declared.operations.ObjectsOperation.TheVariants as operation
-use Rattle.object_routes.specs.Bodies.{object_in_body, absent}
+use Rattle.org_core.specs.Bodies.{document_in, object_in_body, absent}
 use Rattle.object_routes.specs.Operations.{creating, replacing}
-use Rattle.object_routes.specs.Organisations.{org_uri}
 
 -- the front of the paths of a collection's objects
 abbrev pub objects_front : List ℕ → Collection → List ℕ
 objects_front org collection = org_uri org ++ (codes "/" ++ (segment_of collection ++ codes "/"))
-
--- the text that a document is
-abbrev pub text_of : Option Doc → List ℕ
-text_of None = []
-text_of (Some null) = []
-text_of (Some (boolean b)) = []
-text_of (Some (whole n)) = []
-text_of (Some (words w)) = w
-text_of (Some (list ds)) = []
-text_of (Some (dict ps)) = []
-
--- the name that an object has as its field of this key
-abbrev pub named_by : List ℕ → Doc → List ℕ
-named_by field object = text_of (part_at field object)
 
 -- the name of an object
 abbrev pub name_of : Doc → List ℕ
@@ -106,12 +93,12 @@ objects_need collection (operation.Remove name) = Listed permission.Delete (key 
 abbrev pub objects_needs : Collection → ObjectsOperation → List Need
 objects_needs collection operation = objects_need collection operation ∷ []
 
--- a name that nobody may take in the collection: a client isn't called as the operator is
-abbrev pub is_reserved : Collection → List ℕ → Bool
-is_reserved Nodes name = false
-is_reserved Roles name = false
-is_reserved Environments name = false
-is_reserved Clients name = bytes_eq name (codes "pivotal")
+-- a name that nobody may take in the collection: a client isn't called as a user is, nor as the operator
+abbrev pub is_reserved : Collection → List ℕ → State → Bool
+is_reserved Nodes name state = false
+is_reserved Roles name state = false
+is_reserved Environments name state = false
+is_reserved Clients name state = is_actor (membership_of state) name
 
 -- an object that stays as it is: the environment `_default`
 abbrev pub is_fixed : Collection → List ℕ → Bool
@@ -122,7 +109,7 @@ is_fixed Clients name = false
 
 -- a name is taken
 abbrev pub is_taken : Collection → List ℕ → State → Bool
-is_taken collection name state = is_reserved collection name || has_object state (kind_in collection) name
+is_taken collection name state = is_reserved collection name state || has_object state (kind_in collection) name
 
 -- what is created must have a name that isn't taken, and what is changed must not be fixed
 abbrev pub objects_refusal : Collection → Context → ObjectsOperation → Option Refusal
@@ -145,25 +132,43 @@ found kind name state = or_null (object_in state kind name)
 unfoldable pub listed : List ℕ → Kind → State → Told
 listed front kind state = shows (paths_behind front (names_in kind (objects_of state)))
 
--- an object is put in under a name: 201 with its path, which is the name behind this front
-abbrev pub created_under : List ℕ → Kind → List ℕ → Doc → Decided
-created_under front kind name object = does_by (creates (front ++ name)) (move.Put (key kind name) object ∷ []) 0
+-- who comes with an object of the collection: a client joins the group `clients`
+abbrev pub comers : Collection → List ℕ → List Move
+comers Nodes name = []
+comers Roles name = []
+comers Environments name = []
+comers Clients name = move.AddClient (record { name = name; group = codes "clients" }) ∷ []
+
+-- who goes with an object of the collection
+abbrev pub goers : Collection → List ℕ → List Move
+goers Nodes name = []
+goers Roles name = []
+goers Environments name = []
+goers Clients name = move.RemoveClient name ∷ []
+
+-- the moves by which an object of a collection is created
+abbrev pub creation : Collection → Context → List ℕ → Doc → List Move
+creation collection context name object = comers collection name ++ with_list (container_of collection) context (kind_in collection) name object
+
+-- and by which one goes
+abbrev pub removal : Collection → List ℕ → List Move
+removal collection name = move.TakeOut (key (kind_in collection) name) ∷ move.TakeList (key (kind_in collection) name) ∷ goers collection name
 
 -- an object takes the place of the one of its name, which is looked at: 200 with the object
 abbrev pub replaced : Kind → List ℕ → Doc → Decided
 replaced kind name object = does_by (shows object) (move.Put (key kind name) object ∷ []) 1
 
--- an object goes: 200 with the object as it was
-abbrev pub removed : Kind → List ℕ → State → Decided
-removed kind name state = does_by (shows (found kind name state)) (move.TakeOut (key kind name) ∷ []) 1
+-- what is there goes by these moves: 200 with the object as it was
+abbrev pub removed_by : List Move → Kind → List ℕ → State → Decided
+removed_by moves kind name state = does_by (shows (found kind name state)) moves 1
 
 -- what is done
 abbrev pub objects_does : Collection → Context → ObjectsOperation → Decided
 objects_does collection context operation.List = tells (listed (objects_front context.org collection) (kind_in collection) context.state)
-objects_does collection context (operation.Create object) = created_under (objects_front context.org collection) (kind_in collection) (name_of object) object
+objects_does collection context (operation.Create object) = created_by (objects_front context.org collection ++ name_of object) (creation collection context (name_of object) object)
 objects_does collection context (operation.Show name) = reads (shows (found (kind_in collection) name context.state))
 objects_does collection context (operation.Replace name object) = replaced (kind_in collection) name object
-objects_does collection context (operation.Remove name) = removed (kind_in collection) name context.state
+objects_does collection context (operation.Remove name) = removed_by (removal collection name) (kind_in collection) name context.state
 
 -- the rules of a collection
 abbrev pub objects_rules : Collection → Rules ObjectsRoute ObjectsOperation

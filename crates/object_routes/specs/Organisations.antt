@@ -1,7 +1,10 @@
 -- The routes of an organisation as a whole.
-use Rattle.std.specs.Prelude.{Bool, false, ℕ, List, [], ◌∷◌, ◌++◌, Option, None, codes, is_some, Result, Ok, Err}
+use Rattle.std.specs.Prelude.{Bool, false, ℕ, List, [], ◌∷◌, ◌++◌, map, Option, None, codes, is_some, Result, Ok, Err}
+use Rattle.access_lists.specs.declared.starting.Container.{Container}
+use Rattle.access_lists.specs.declared.starting.Container.TheVariants as container
+use Rattle.access_lists.specs.Starting.{containers, name_of, no_members, starting_groups, starting_list}
 use Rattle.doc_tree.specs.Doc.{Doc, words, dict, no_pairs, then_pair}
-use Rattle.doc_tree.specs.declared.kind.Kind.TheVariants.{Environment}
+use Rattle.doc_tree.specs.declared.kind.Kind.TheVariants.{Container as AContainer, Environment, Group}
 use Rattle.object_store.specs.Objects.{key}
 use Rattle.route_table.specs.declared.verbs.Verb.{Verb}
 use Rattle.route_table.specs.declared.verbs.Verb.TheVariants.{Get, Post, Put, Delete, Other}
@@ -9,22 +12,19 @@ use Rattle.org_core.specs.declared.moves.Move.{Move}
 use Rattle.org_core.specs.declared.moves.Move.TheVariants as move
 use Rattle.org_core.specs.declared.needs.Need.{Need}
 use Rattle.org_core.specs.declared.needs.Need.TheVariants.{Operator}
-use Rattle.org_core.specs.declared.needs.Permission.TheVariants as permission
+use Rattle.access_lists.specs.declared.perm.Perm.TheVariants as permission
 use Rattle.org_core.specs.declared.refusals.Refusal.{Refusal}
 use Rattle.org_core.specs.declared.refusals.Refusal.TheVariants.{AlreadyExists, NotAllowed}
 use Rattle.org_core.specs.declared.routes.OrganisationRoute.{OrganisationRoute}
 use Rattle.org_core.specs.declared.routes.OrganisationRoute.TheVariants.{Create, Whole}
 use Rattle.org_core.specs.Contexts.{Context}
-use Rattle.org_core.specs.Outcomes.{Decided, shows, creates, tells, does_by}
+use Rattle.org_core.specs.Creating.{created_by}
+use Rattle.org_core.specs.Outcomes.{Decided, shows, tells}
 use Rattle.org_core.specs.Refusals.{refuses}
-use Rattle.org_core.specs.Replies.{one_key}
+use Rattle.org_core.specs.Replies.{org_uri, one_key}
 use Rattle.org_core.specs.Rules.{Rules}
 use Rattle.object_routes.specs.declared.operations.OrganisationOperation.{OrganisationOperation}
 use Rattle.object_routes.specs.declared.operations.OrganisationOperation.TheVariants as operation
-
--- the path of an organisation
-abbrev pub org_uri : List ℕ → List ℕ
-org_uri org = codes "/organizations/" ++ org
 
 -- the environment that every organisation has, with the default of each field
 abbrev pub default_environment : Doc
@@ -37,9 +37,33 @@ default_environment = dict
     (then_pair (codes "name") (words (codes "_default"))
     (then_pair (codes "override_attributes") (dict no_pairs) no_pairs)))))))
 
--- the organisation is there from now on, and has the environment `_default`
+-- the environment `_default` comes
+abbrev pub default_comes : Move
+default_comes = move.Put (key Environment (codes "_default")) default_environment
+
+-- with the list of the container of environments
+abbrev pub default_list : Move
+default_list = move.PutList (key Environment (codes "_default")) (starting_list container.Environments)
+
+abbrev pub starts_default : List Move
+starts_default = default_comes ∷ default_list ∷ []
+
+-- a container starts with the access list of its row of the table
+abbrev pub starts_container : Container → Move
+starts_container container = move.PutList (key AContainer (name_of container)) (starting_list container)
+
+-- a starting group has nobody at first
+abbrev pub starts_group : List ℕ → Move
+starts_group name = move.PutGroup name no_members
+
+-- and the list of the container of groups
+abbrev pub starts_list : List ℕ → Move
+starts_list name = move.PutList (key Group name) (starting_list container.Groups)
+
+-- the organisation is there from now on, and has the environment `_default`, the twelve containers and the starting
+-- groups, each with its access list
 abbrev pub creation : List Move
-creation = move.Open ∷ move.Put (key Environment (codes "_default")) default_environment ∷ []
+creation = move.Open ∷ (starts_default ++ (map starts_container containers ++ (map starts_group starting_groups ++ map starts_list starting_groups)))
 
 -- what is asked of the organisation that a body names: only to create it
 abbrev pub creation_asked : Verb → Result OrganisationOperation Refusal
@@ -79,7 +103,7 @@ organisation_refusal context operation.Show = None
 
 -- an organisation is created: 201 with its path; or shown by its name
 abbrev pub organisation_does : Context → OrganisationOperation → Decided
-organisation_does context operation.Create = does_by (creates (org_uri context.org)) creation 0
+organisation_does context operation.Create = created_by (org_uri context.org) creation
 organisation_does context operation.Show = tells (shows (one_key (codes "name") (words context.org)))
 
 -- the rules of these routes

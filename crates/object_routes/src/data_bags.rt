@@ -1,6 +1,6 @@
 //! The routes of data bags and their items.
 
-ghost use Rattle.std.specs.Prelude.{◌≡◌, ◌&&◌, [], ◌∷◌, codes, Ok, IfOk};
+ghost use Rattle.std.specs.Prelude.{◌≡◌, ◌&&◌, Ok, IfOk};
 ghost use Rattle.doc_tree.specs.Name.{is_name};
 ghost use Rattle.object_store.specs.Items as items;
 ghost use Rattle.object_store.specs.Objects.{key};
@@ -11,17 +11,15 @@ ghost use Rattle.org_core.specs.States.{has_object, objects_of, state_in};
 ghost use Rattle.object_routes.specs.DataBags as spec;
 ghost use Rattle.object_routes.specs.Objects as objects;
 
-use crate::bodies::{absent, object_in_body, object_named};
-use crate::objects::{
-    create_under, lacks_named, listed, name_of, named_by, need, remove, replace, show,
-};
+use crate::objects::{lacks_named, listed, name_of, remove, replace, show};
 use crate::operations::DataOperation;
-use crate::organisations::org_uri;
+use access_lists::Container;
 use doc_tree::{Kind, NoMemory, Steps, Text, Tree, is_name};
 use object_store::Key;
 use org_core::{
-    Body, Context, DataRoute, Finder, Group, Lent, Move, Moves, Need, Needs, OrgState, Permission,
-    Prepared, Refusal, Request, Stop, Stored, joined, shown_key, shown_paths,
+    Body, Context, DataRoute, Finder, Group, Lent, Move, Moves, Need, Needs, OrgState, Perm,
+    Prepared, Refusal, Request, Stop, Stored, absent, add_with_list, create_by, joined, key_of,
+    listed_need, named_by, object_in_body, object_named, one_move, org_uri, shown_key, shown_paths,
 };
 use route_table::Verb;
 use std::alloc::Global;
@@ -115,9 +113,9 @@ impl Group for DataBags {
         let state = context.state;
         Ok(match operation {
             DataOperation::ListBags => list_bags(alloc, context)?,
-            DataOperation::CreateBag(object) => create_bag(alloc, context.org, object)?,
+            DataOperation::CreateBag(object) => create_bag(alloc, context, object)?,
             DataOperation::ListItems(bag) => list_items(alloc, context, &bag)?,
-            DataOperation::CreateItem(bag, item) => create_item(alloc, context.org, &bag, item)?,
+            DataOperation::CreateItem(bag, item) => create_item(alloc, context, &bag, item)?,
             DataOperation::RemoveBag(bag) => remove_bag(alloc, bag, state)?,
             DataOperation::ShowItem(bag, id) => {
                 show(alloc, state.item(bag.as_str(), id.as_str(), steps))?
@@ -127,8 +125,9 @@ impl Group for DataBags {
                 replace(alloc, item_key(alloc, &bag, id.as_str())?, item)?
             }
             DataOperation::RemoveItem(bag, id) => {
-                let item = state.item(bag.as_str(), id.as_str(), steps);
-                remove(alloc, item, item_key(alloc, &bag, id.as_str())?)?
+                let key = item_key(alloc, &bag, id.as_str())?;
+                let moves = one_move(alloc, Move::TakeOut(key))?;
+                remove(alloc, state.item(bag.as_str(), id.as_str(), steps), moves)?
             }
         })
     }
@@ -211,35 +210,21 @@ fn needed(alloc: Global, operation: &DataOperation) -> Result<Need, NoMemory>
     ensures { IfOk result (λ need. need ≡ spec.data_need operation.now) }
 {
     match operation {
-        DataOperation::ListBags => container_need(alloc, Permission::Read),
-        DataOperation::CreateBag(_) => container_need(alloc, Permission::Create),
+        DataOperation::ListBags => listed_need(alloc, Perm::Read, Kind::Container, "data"),
+        DataOperation::CreateBag(_) => listed_need(alloc, Perm::Create, Kind::Container, "data"),
         DataOperation::ListItems(bag) | DataOperation::ShowItem(bag, _) => {
-            bag_need(alloc, Permission::Read, bag)
+            listed_need(alloc, Perm::Read, Kind::Bag, bag.as_str())
         }
         DataOperation::CreateItem(bag, _)
         | DataOperation::ReplaceItem(bag, _, _)
-        | DataOperation::RemoveItem(bag, _) => bag_need(alloc, Permission::Update, bag),
-        DataOperation::RemoveBag(bag) => bag_need(alloc, Permission::Delete, bag),
+        | DataOperation::RemoveItem(bag, _) => listed_need(
+            alloc,
+            Perm::Update,
+            Kind::Bag,
+            bag.as_str(),
+        ),
+        DataOperation::RemoveBag(bag) => listed_need(alloc, Perm::Delete, Kind::Bag, bag.as_str()),
     }
-}
-
-/// A permission that is looked up in the list of this bag.
-fn bag_need(alloc: Global, permission: Permission, bag: &Text) -> Result<Need, NoMemory>
-    ensures { IfOk result (λ need. need ≡ Need.Listed permission (key Kind.Bag bag.now)) }
-{
-    need(alloc, permission, Kind::Bag, bag)
-}
-
-/// A permission that is looked up in the list of the container of bags.
-fn container_need(alloc: Global, permission: Permission) -> Result<Need, NoMemory>
-    ensures { IfOk result (λ need. need ≡ Need.Listed permission (key Kind.Container (codes "data"))) }
-{
-    need(
-        alloc,
-        permission,
-        Kind::Container,
-        &Text::from_str(alloc, "data")?,
-    )
 }
 
 fn bag_refusal(object: &Stored, state: &OrgState) -> Option<Refusal>
@@ -269,15 +254,15 @@ fn list_bags(alloc: Global, context: Context<'_>) -> Result<Prepared, NoMemory>
     listed(alloc, &front, Kind::Bag, context.state)
 }
 
-fn create_bag(alloc: Global, org: &Text, object: Stored) -> Result<Prepared, NoMemory>
-    ensures { IfOk result (λ p. Finds (Ok p) (objects.created_under (spec.bags_front org.now) Kind.Bag (objects.name_of object) object).answer) }
+fn create_bag(alloc: Global, context: Context<'_>, object: Stored) -> Result<Prepared, NoMemory>
+    ensures { IfOk result (λ p. Finds (Ok p) (spec.data_does (seen context.entry) (DataOperation.CreateBag object)).answer) }
 {
-    let front = bags_front(alloc, org)?;
-    let key = Key {
-        kind: Kind::Bag,
-        name: Text::from_str(alloc, name_of(&object))?,
-    };
-    create_under(alloc, &front, key, object)
+    let front = bags_front(alloc, context.org)?;
+    let path = joined(alloc, front.as_str(), name_of(&object))?;
+    let key = key_of(alloc, Kind::Bag, name_of(&object))?;
+    let mut moves = Moves::new(alloc);
+    add_with_list(alloc, context, Container::Data, key, object, &mut moves)?;
+    create_by(alloc, path, moves)
 }
 
 fn list_items(alloc: Global, context: Context<'_>, bag: &Text) -> Result<Prepared, NoMemory>
@@ -294,12 +279,18 @@ fn list_items(alloc: Global, context: Context<'_>, bag: &Text) -> Result<Prepare
     })
 }
 
-fn create_item(alloc: Global, org: &Text, bag: &Text, item: Stored) -> Result<Prepared, NoMemory>
-    ensures { IfOk result (λ p. Finds (Ok p) (objects.created_under (spec.bags_front org.now) Kind.Item (items.item_name bag.now (spec.id_of item)) item).answer) }
+fn create_item(
+    alloc: Global,
+    context: Context<'_>,
+    bag: &Text,
+    item: Stored,
+) -> Result<Prepared, NoMemory>
+    ensures { IfOk result (λ p. Finds (Ok p) (spec.data_does (seen context.entry) (DataOperation.CreateItem bag.now item)).answer) }
 {
-    let front = bags_front(alloc, org)?;
+    let front = bags_front(alloc, context.org)?;
     let key = item_key(alloc, bag, id_of(&item))?;
-    create_under(alloc, &front, key, item)
+    let path = joined(alloc, front.as_str(), key.name.as_str())?;
+    create_by(alloc, path, one_move(alloc, Move::Put(key, item))?)
 }
 
 fn remove_bag(alloc: Global, bag: Text, state: &OrgState) -> Result<Prepared, NoMemory>
@@ -310,7 +301,7 @@ fn remove_bag(alloc: Global, bag: Text, state: &OrgState) -> Result<Prepared, No
     Ok(Prepared { reply, moves })
 }
 
-/// Each of a bag's items goes, and then the bag.
+/// Each of a bag's items goes, and then the bag with its access list.
 fn bag_removal(alloc: Global, bag: &Text, state: &OrgState) -> Result<Moves, NoMemory>
     ensures { IfOk result (λ moves. moves ≡ spec.bag_removal bag.now (objects_of (state_in state.now))) }
 {
@@ -319,11 +310,8 @@ fn bag_removal(alloc: Global, bag: &Text, state: &OrgState) -> Result<Moves, NoM
     for id in ids.as_slice() {
         moves.push(Move::TakeOut(item_key(alloc, bag, id.as_str())?))?;
     }
-    let key = Key {
-        kind: Kind::Bag,
-        name: bag.copy(alloc)?,
-    };
-    moves.push(Move::TakeOut(key))?;
+    moves.push(Move::TakeOut(key_of(alloc, Kind::Bag, bag.as_str())?))?;
+    moves.push(Move::TakeList(key_of(alloc, Kind::Bag, bag.as_str())?))?;
     Ok(moves)
 }
 

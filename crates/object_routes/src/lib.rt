@@ -1,7 +1,6 @@
 //! The rules of organisations, of the plain collections of objects, and of data bags and their items.
 #![tactic(auto)]
 
-mod bodies;
 mod data_bags;
 mod laws;
 mod objects;
@@ -12,4 +11,4 @@ pub use data_bags::DataBags;
 pub use laws::{default_environment_is_read, groups_keep_conditions};
 pub use objects::PlainObjects;
 pub use operations::{DataOperation, ObjectsOperation, OrganisationOperation};
-pub use organisations::{ORGANISATIONS, Organisations};
+pub use organisations::Organisations;

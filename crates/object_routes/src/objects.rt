@@ -1,6 +1,6 @@
 //! The routes of nodes, roles, environments and clients: one rule for all four collections.
 
-ghost use Rattle.std.specs.Prelude.{◌≡◌, [], ◌∷◌, Ok, IfOk, option_map};
+ghost use Rattle.std.specs.Prelude.{◌≡◌, ◌++◌, Ok, IfOk, OnOk, option_map};
 ghost use Rattle.doc_tree.specs.Name.{is_name};
 ghost use Rattle.doc_tree.specs.Tree.{doc_of};
 ghost use Rattle.object_forms.specs.Kinds.{IsFormed};
@@ -10,14 +10,13 @@ ghost use Rattle.org_core.specs.Refusals.{Tells, refuses};
 ghost use Rattle.org_core.specs.States.{state_in};
 ghost use Rattle.object_routes.specs.Objects as spec;
 
-use crate::bodies::{absent, object_in_body, object_named};
 use crate::operations::ObjectsOperation;
-use crate::organisations::org_uri;
 use doc_tree::{Kind, NoMemory, Steps, Text, Tree, is_name};
 use object_store::Key;
 use org_core::{
-    Body, Collection, Context, Finder, Group, Lent, Move, Moves, Need, Needs, ObjectsRoute,
-    OrgState, Permission, Prepared, Refusal, Request, Stop, Stored, created, joined, shown,
+    Body, Collection, Comer, Context, Finder, Group, Lent, Move, Moves, Need, Needs, ObjectsRoute,
+    OrgState, Perm, Prepared, Refusal, Request, Stop, Stored, absent, add_with_list, create_by,
+    joined, key_of, listed_need, named_by, object_in_body, object_named, one_move, org_uri, shown,
     shown_paths,
 };
 use route_table::Verb;
@@ -85,19 +84,21 @@ impl Group for PlainObjects {
 
     fn own_refusal<F: Finder>(
         &self,
-        _alloc: Global,
+        alloc: Global,
         context: Context<'_>,
         _lent: &Lent<'_, F>,
         operation: &ObjectsOperation,
     ) -> Result<Option<Refusal>, NoMemory> {
         let collection = self.collection;
-        Ok(match operation {
-            ObjectsOperation::List | ObjectsOperation::Show(_) => None,
-            ObjectsOperation::Create(object) => taken_refusal(collection, object, context.state),
-            ObjectsOperation::Replace(name, _) | ObjectsOperation::Remove(name) => {
-                fixed_refusal(collection, name)
+        match operation {
+            ObjectsOperation::List | ObjectsOperation::Show(_) => Ok(None),
+            ObjectsOperation::Create(object) => {
+                taken_refusal(alloc, collection, object, context.state)
             }
-        })
+            ObjectsOperation::Replace(name, _) | ObjectsOperation::Remove(name) => {
+                Ok(fixed_refusal(collection, name))
+            }
+        }
     }
 
     fn does<F: Finder, L: Ledger>(
@@ -122,8 +123,8 @@ impl Group for PlainObjects {
                 replace(alloc, Key { kind, name }, object)?
             }
             ObjectsOperation::Remove(name) => {
-                let object = state.look_up(kind, name.as_str(), steps);
-                remove(alloc, object, Key { kind, name })?
+                let moves = removal(alloc, collection, &name)?;
+                remove(alloc, state.look_up(kind, name.as_str(), steps), moves)?
             }
         })
     }
@@ -186,51 +187,44 @@ fn needed(
 ) -> Result<Need, NoMemory>
     ensures { IfOk result (λ need. need ≡ spec.objects_need collection operation.now) }
 {
-    let container = Key {
-        kind: Kind::Container,
-        name: Text::from_str(alloc, collection.segment())?,
-    };
     let kind = collection.kind();
-    Ok(match operation {
-        ObjectsOperation::List => Need::Listed(Permission::Read, container),
-        ObjectsOperation::Create(_) => Need::Listed(Permission::Create, container),
-        ObjectsOperation::Show(name) => need(alloc, Permission::Read, kind, name)?,
-        ObjectsOperation::Replace(name, _) => need(alloc, Permission::Update, kind, name)?,
-        ObjectsOperation::Remove(name) => need(alloc, Permission::Delete, kind, name)?,
-    })
-}
-
-/// A permission that is looked up in the list of the object of this kind and name.
-pub(crate) fn need(
-    alloc: Global,
-    permission: Permission,
-    kind: Kind,
-    name: &Text,
-) -> Result<Need, NoMemory>
-    ensures { IfOk result (λ need. need ≡ Need.Listed permission (record { kind = kind; name = name.now })) }
-{
-    let name = name.copy(alloc)?;
-    Ok(Need::Listed(permission, Key { kind, name }))
-}
-
-/// What is created must have a name that isn't taken.
-fn taken_refusal(collection: Collection, object: &Stored, state: &OrgState) -> Option<Refusal>
-    ensures { result ≡ refuses Refusal.AlreadyExists (spec.is_taken collection (spec.name_of object.now) (state_in state.now)) }
-{
-    let name = name_of(object);
-    if is_reserved(collection, name) || state.has(collection.kind(), name) {
-        Some(Refusal::AlreadyExists)
-    } else {
-        None
+    match operation {
+        ObjectsOperation::List => {
+            listed_need(alloc, Perm::Read, Kind::Container, collection.segment())
+        }
+        ObjectsOperation::Create(_) => {
+            listed_need(alloc, Perm::Create, Kind::Container, collection.segment())
+        }
+        ObjectsOperation::Show(name) => listed_need(alloc, Perm::Read, kind, name.as_str()),
+        ObjectsOperation::Replace(name, _) => listed_need(alloc, Perm::Update, kind, name.as_str()),
+        ObjectsOperation::Remove(name) => listed_need(alloc, Perm::Delete, kind, name.as_str()),
     }
 }
 
-/// Whether nobody may take the name in the collection: a client isn't called as the operator is.
-fn is_reserved(collection: Collection, name: &str) -> bool
-    ensures { result ≡ spec.is_reserved collection name.now }
+/// What is created must have a name that isn't taken.
+fn taken_refusal(
+    alloc: Global,
+    collection: Collection,
+    object: &Stored,
+    state: &OrgState,
+) -> Result<Option<Refusal>, NoMemory>
+    ensures { IfOk result (λ o. o ≡ refuses Refusal.AlreadyExists (spec.is_taken collection (spec.name_of object.now) (state_in state.now))) }
+{
+    let name = Text::from_str(alloc, name_of(object))?;
+    if is_reserved(collection, &name, state) || state.has(collection.kind(), name.as_str()) {
+        Ok(Some(Refusal::AlreadyExists))
+    } else {
+        Ok(None)
+    }
+}
+
+/// Whether nobody may take the name in the collection: a client isn't called as a user is, nor as the
+/// operator.
+fn is_reserved(collection: Collection, name: &Text, state: &OrgState) -> bool
+    ensures { result ≡ spec.is_reserved collection name.now (state_in state.now) }
 {
     match collection {
-        Collection::Clients => name == "pivotal",
+        Collection::Clients => state.groups().is_actor(name),
         Collection::Nodes | Collection::Roles | Collection::Environments => false,
     }
 }
@@ -301,23 +295,74 @@ fn create(
     ensures { IfOk result (λ p. Finds (Ok p) (spec.objects_does collection (seen context.entry) (ObjectsOperation.Create object)).answer) }
 {
     let front = objects_front(alloc, context.org, collection)?;
-    let name = Text::from_str(alloc, name_of(&object))?;
-    let kind = collection.kind();
-    create_under(alloc, &front, Key { kind, name }, object)
+    let path = joined(alloc, front.as_str(), name_of(&object))?;
+    let moves = creation(alloc, context, collection, object)?;
+    create_by(alloc, path, moves)
 }
 
-/// An object is put in under its key, and its path is the key's name behind this front.
-pub(crate) fn create_under(
+/// The moves by which an object of a collection is created.
+fn creation(
     alloc: Global,
-    front: &Text,
-    key: Key,
+    context: Context<'_>,
+    collection: Collection,
     object: Stored,
-) -> Result<Prepared, NoMemory>
-    ensures { IfOk result (λ p. Finds (Ok p) (spec.created_under front.now key.kind key.name object).answer) }
+) -> Result<Moves, NoMemory>
+    ensures { IfOk result (λ moves. moves ≡ spec.creation collection (seen context.entry) (spec.name_of object) object) }
 {
-    let reply = created(alloc, joined(alloc, front.as_str(), key.name.as_str())?)?;
-    let moves = one_move(alloc, Move::Put(key, object))?;
-    Ok(Prepared { reply, moves })
+    let mut moves = Moves::new(alloc);
+    add_comers(alloc, collection, name_of(&object), &mut moves)?;
+    let key = key_of(alloc, collection.kind(), name_of(&object))?;
+    add_with_list(
+        alloc,
+        context,
+        collection.container(),
+        key,
+        object,
+        &mut moves,
+    )?;
+    Ok(moves)
+}
+
+/// Adds who comes with an object of the collection: a client joins the group `clients`.
+fn add_comers(
+    alloc: Global,
+    collection: Collection,
+    name: &str,
+    moves: &mut Moves,
+) -> Result<(), NoMemory>
+    ensures { OnOk result (moves.new ≡ moves.old ++ spec.comers collection name.now) }
+{
+    match collection {
+        Collection::Clients => moves.push(Move::AddClient(Comer::of(alloc, name, "clients")?)),
+        Collection::Nodes | Collection::Roles | Collection::Environments => Ok(()),
+    }
+}
+
+/// The moves by which an object of a collection goes, and its access list with it.
+fn removal(alloc: Global, collection: Collection, name: &Text) -> Result<Moves, NoMemory>
+    ensures { IfOk result (λ moves. moves ≡ spec.removal collection name.now) }
+{
+    let kind = collection.kind();
+    let mut moves = Moves::new(alloc);
+    moves.push(Move::TakeOut(key_of(alloc, kind, name.as_str())?))?;
+    moves.push(Move::TakeList(key_of(alloc, kind, name.as_str())?))?;
+    add_goers(alloc, collection, name, &mut moves)?;
+    Ok(moves)
+}
+
+/// Adds who goes with an object of the collection.
+fn add_goers(
+    alloc: Global,
+    collection: Collection,
+    name: &Text,
+    moves: &mut Moves,
+) -> Result<(), NoMemory>
+    ensures { OnOk result (moves.new ≡ moves.old ++ spec.goers collection name.now) }
+{
+    match collection {
+        Collection::Clients => moves.push(Move::RemoveClient(name.copy(alloc)?)),
+        Collection::Nodes | Collection::Roles | Collection::Environments => Ok(()),
+    }
 }
 
 /// An object that was found to be there is shown.
@@ -340,21 +385,16 @@ pub(crate) fn replace(alloc: Global, key: Key, object: Stored) -> Result<Prepare
     Ok(Prepared { reply, moves })
 }
 
-/// An object that was found to be there goes.
-pub(crate) fn remove(alloc: Global, object: Option<&Tree>, key: Key) -> Result<Prepared, NoMemory>
-    ensures { IfOk result (λ p. Finds (Ok p) (does_by (shows (spec.or_null (option_map (λ t. doc_of t.now) object.entry))) (Move.TakeOut key ∷ []) 1).answer) }
+/// An object that was found to be there goes by these moves.
+pub(crate) fn remove(
+    alloc: Global,
+    object: Option<&Tree>,
+    moves: Moves,
+) -> Result<Prepared, NoMemory>
+    ensures { IfOk result (λ p. Finds (Ok p) (does_by (shows (spec.or_null (option_map (λ t. doc_of t.now) object.entry))) moves 1).answer) }
 {
     let reply = shown(alloc, object.unwrap_or(&Tree::Null))?;
-    let moves = one_move(alloc, Move::TakeOut(key))?;
     Ok(Prepared { reply, moves })
-}
-
-fn one_move(alloc: Global, one: Move) -> Result<Moves, NoMemory>
-    ensures { IfOk result (λ moves. moves ≡ one ∷ []) }
-{
-    let mut moves = Moves::new(alloc);
-    moves.push(one)?;
-    Ok(moves)
 }
 
 /// The name of an object.
@@ -362,23 +402,4 @@ pub(crate) fn name_of(object: &Stored) -> &str
     ensures { result.now ≡ spec.name_of object.now }
 {
     named_by("name", object.tree())
-}
-
-/// The name that an object has as its field of this key.
-pub(crate) fn named_by<'a>(field: &str, object: &'a Tree) -> &'a str
-    ensures { result.now ≡ spec.named_by field.now (doc_of object.now) }
-{
-    match object {
-        Tree::Dict(fields) => text_of(fields.get(field)),
-        Tree::Null | Tree::Bool(_) | Tree::Whole(_) | Tree::Words(_) | Tree::List(_) => "",
-    }
-}
-
-fn text_of(tree: Option<&Tree>) -> &str
-    ensures { result.now ≡ spec.text_of (option_map (λ t. doc_of t.now) tree.entry) }
-{
-    match tree {
-        Some(Tree::Words(text)) => text.as_str(),
-        _ => "",
-    }
 }

@@ -1,6 +1,7 @@
 //! The routes of an organisation as a whole.
 
-ghost use Rattle.std.specs.Prelude.{◌≡◌, Ok, IfOk, OnOk};
+ghost use Rattle.std.specs.Prelude.{◌≡◌, [], ◌∷◌, ◌++◌, map, Ok, IfOk, OnOk};
+ghost use Rattle.access_lists.specs.Starting.{containers, starting_groups};
 ghost use Rattle.doc_tree.specs.Doc.{words, dict, no_pairs};
 ghost use Rattle.doc_tree.specs.Part.{with_pair};
 ghost use Rattle.org_core.specs.Contexts.{seen};
@@ -10,18 +11,16 @@ ghost use Rattle.object_routes.specs.Organisations as spec;
 ghost use Rattle.doc_tree.specs.Tree.{doc_of};
 
 use crate::operations::OrganisationOperation;
+use access_lists::{Container, Group as AGroup, starting_list};
 use doc_tree::{Fields, Kind, NoMemory, Steps, Text, Tree};
-use object_store::Key;
 use org_core::{
-    Context, Finder, Group, Lent, Move, Moves, Need, Needs, OrganisationRoute, Permission,
-    Prepared, Refusal, Request, Stop, Stored, created, joined, shown_key,
+    Context, Finder, Group, GroupMembers, Lent, Move, Moves, Need, Needs, OrganisationRoute, Perm,
+    Prepared, Refusal, Request, Stop, Stored, create_by, key_of, org_uri, shown_key,
 };
 use route_table::Verb;
 use std::alloc::Global;
+use std::hash::RandomState;
 use std::sync::ledger::Ledger;
-
-/// The front of the paths of organisations.
-pub const ORGANISATIONS: &str = "/organizations/";
 
 /// The group of the routes of an organisation as a whole.
 #[derive(Clone, Copy, Debug)]
@@ -68,7 +67,7 @@ impl Group for Organisations {
     ) -> Result<Needs, NoMemory> {
         let mut needs = Needs::new(alloc);
         match operation {
-            OrganisationOperation::Create => needs.push(Need::Operator(Permission::Create))?,
+            OrganisationOperation::Create => needs.push(Need::Operator(Perm::Create))?,
             OrganisationOperation::Show => {}
         }
         Ok(needs)
@@ -117,9 +116,8 @@ fn asked(route: OrganisationRoute, verb: Verb) -> Result<OrganisationOperation, 
 fn create(alloc: Global, context: Context<'_>) -> Result<Prepared, NoMemory>
     ensures { IfOk result (λ p. Finds (Ok p) (spec.organisation_does (seen context.entry) OrganisationOperation.Create).answer) }
 {
-    let reply = created(alloc, org_uri(alloc, context.org)?)?;
-    let moves = creation(alloc)?;
-    Ok(Prepared { reply, moves })
+    let path = org_uri(alloc, context.org)?;
+    create_by(alloc, path, creation(alloc, context.state.hasher())?)
 }
 
 fn show(alloc: Global, context: Context<'_>) -> Result<Prepared, NoMemory>
@@ -133,26 +131,103 @@ fn show(alloc: Global, context: Context<'_>) -> Result<Prepared, NoMemory>
     })
 }
 
-/// The path of an organisation.
-pub(crate) fn org_uri(alloc: Global, org: &Text) -> Result<Text, NoMemory>
-    ensures { IfOk result (λ uri. uri ≡ spec.org_uri org.now) }
-{
-    joined(alloc, ORGANISATIONS, org.as_str())
-}
-
 /// The moves that create an organisation.
-fn creation(alloc: Global) -> Result<Moves, NoMemory>
+fn creation(alloc: Global, hasher: RandomState) -> Result<Moves, NoMemory>
     ensures { IfOk result (λ moves. moves ≡ spec.creation) }
 {
-    let key = Key {
-        kind: Kind::Environment,
-        name: Text::from_str(alloc, "_default")?,
-    };
-    let environment = Stored::of(default_environment(alloc)?);
     let mut moves = Moves::new(alloc);
     moves.push(Move::Open)?;
-    moves.push(Move::Put(key, environment))?;
+    add_default_environment(alloc, &mut moves)?;
+    add_containers(alloc, &mut moves)?;
+    add_groups(alloc, hasher, &mut moves)?;
+    add_lists_of_groups(alloc, &mut moves)?;
     Ok(moves)
+}
+
+/// Adds the moves by which the environment `_default` comes, with its access list.
+#[tactic(auto, using(crate::proofs::AppendLemmas::two_behind))]
+fn add_default_environment(alloc: Global, moves: &mut Moves) -> Result<(), NoMemory>
+    ensures { OnOk result (moves.new ≡ moves.old ++ spec.starts_default) }
+{
+    moves.push(default_comes(alloc)?)?;
+    moves.push(default_list(alloc)?)
+}
+
+fn default_comes(alloc: Global) -> Result<Move, NoMemory>
+    ensures { IfOk result (λ one. one ≡ spec.default_comes) }
+{
+    let key = key_of(alloc, Kind::Environment, "_default")?;
+    Ok(Move::Put(key, Stored::of(default_environment(alloc)?)))
+}
+
+fn default_list(alloc: Global) -> Result<Move, NoMemory>
+    ensures { IfOk result (λ one. one ≡ spec.default_list) }
+{
+    let key = key_of(alloc, Kind::Environment, "_default")?;
+    Ok(Move::PutList(key, starting_list(alloc, Container::Environments)?))
+}
+
+/// Adds the moves by which each container starts with its access list.
+fn add_containers(alloc: Global, moves: &mut Moves) -> Result<(), NoMemory>
+    ensures { OnOk result (moves.new ≡ moves.old ++ map spec.starts_container containers) }
+{
+    for container in Container::all() {
+        let key = key_of(alloc, Kind::Container, container.name())?;
+        moves.push(Move::PutList(key, starting_list(alloc, container)?))?;
+    }
+    Ok(())
+}
+
+/// Adds the moves by which the starting groups come, of which each has nobody at first.
+fn add_groups(alloc: Global, hasher: RandomState, moves: &mut Moves) -> Result<(), NoMemory>
+    ensures { OnOk result (moves.new ≡ moves.old ++ map spec.starts_group starting_groups) }
+{
+    add_two_groups(alloc, hasher, "admins", "billing-admins", moves)?;
+    add_two_groups(alloc, hasher, "clients", "users", moves)
+}
+
+#[tactic(auto, using(crate::proofs::AppendLemmas::two_behind))]
+fn add_two_groups(
+    alloc: Global,
+    hasher: RandomState,
+    one: &str,
+    other: &str,
+    moves: &mut Moves,
+) -> Result<(), NoMemory>
+    ensures { OnOk result (moves.new ≡ moves.old ++ (spec.starts_group one.now ∷ spec.starts_group other.now ∷ [])) }
+{
+    moves.push(starts_group(alloc, hasher, one)?)?;
+    moves.push(starts_group(alloc, hasher, other)?)
+}
+
+fn starts_group(alloc: Global, hasher: RandomState, name: &str) -> Result<Move, NoMemory>
+    ensures { IfOk result (λ one. one ≡ spec.starts_group name.now) }
+{
+    let nobody = GroupMembers::of(AGroup::with(alloc, hasher, &[], &[], &[])?);
+    Ok(Move::PutGroup(Text::from_str(alloc, name)?, nobody))
+}
+
+/// Adds the moves by which each starting group has the access list of the container of groups.
+fn add_lists_of_groups(alloc: Global, moves: &mut Moves) -> Result<(), NoMemory>
+    ensures { OnOk result (moves.new ≡ moves.old ++ map spec.starts_list starting_groups) }
+{
+    add_two_lists(alloc, "admins", "billing-admins", moves)?;
+    add_two_lists(alloc, "clients", "users", moves)
+}
+
+#[tactic(auto, using(crate::proofs::AppendLemmas::two_behind))]
+fn add_two_lists(alloc: Global, one: &str, other: &str, moves: &mut Moves) -> Result<(), NoMemory>
+    ensures { OnOk result (moves.new ≡ moves.old ++ (spec.starts_list one.now ∷ spec.starts_list other.now ∷ [])) }
+{
+    moves.push(starts_list(alloc, one)?)?;
+    moves.push(starts_list(alloc, other)?)
+}
+
+fn starts_list(alloc: Global, name: &str) -> Result<Move, NoMemory>
+    ensures { IfOk result (λ one. one ≡ spec.starts_list name.now) }
+{
+    let list = starting_list(alloc, Container::Groups)?;
+    Ok(Move::PutList(key_of(alloc, Kind::Group, name)?, list))
 }
 
 /// The environment that every organisation has, with the default of each field.

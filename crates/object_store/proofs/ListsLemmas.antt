@@ -1,10 +1,13 @@
 -- The lists that are seen, against those that are kept.
-use Rattle.std.proofs.Common.{◌≡◌, ◌<◌, ℕ, Bool, true, false, cond, List, [], ◌∷◌, Option, None, Some, sym, ap, refl, ◌∙◌, arith}
+use Rattle.std.proofs.Common.{◌≡◌, ◌<◌, ℕ, Bool, true, false, cond, List, [], ◌∷◌, map, Option, None, Some, option_map, sym, ap, refl, ◌∙◌, arith}
 use Rattle.std.proofs.lemmas.Grind.{common_steps}
+use Rattle.std.proofs.lemmas.Map.Made.{lookup-map_values}
 use Rattle.std.specs.Cmp.{eq_by_cmp_equiv}
 use Rattle.std.specs.FinMap as finite
 use Rattle.std.specs.Map.{lookup}
 use Rattle.access_lists.specs.declared.acl.Acl.{Acl}
+use Rattle.access_lists.specs.MapValues.{map_values}
+use Rattle.access_lists.proofs.MapValuesLemmas.{is-map_values}
 use Rattle.object_store.specs.declared.key.Key.{Key}
 use Rattle.object_store.specs.Keys.{key_cmp, key_cmp_total, key_cmp_ties, same_key}
 use Rattle.object_store.specs.Objects.{Lists, smaller}
@@ -56,3 +59,12 @@ pub put_again : (old left new : Entries) (key : Key) (acl : Acl) → ((k : Key) 
     → ((k : Key) → lookup (same_key k) new ≡ cond (same_key key k) (Some acl) (lookup (same_key k) left)) → seen new ≡ finite.insert (seen old) key acl
 put_again old left new key acl takes puts =
     seen-insert old new key acl (λ k. puts k ∙ ap (cond (same_key key k) (Some acl)) (takes k) ∙ twice (same_key key k) acl (lookup (same_key k) old))
+
+-- lists that are each changed where they stand
+pub seen-changed : (change : Acl → Acl) (old new : Entries) → new ≡ map (λ (e : Key × Acl). (e.0, change e.1)) old → seen new ≡ map_values change (seen old)
+seen-changed change old new changed =
+    is-map_values change key_cmp_total key_cmp_ties (seen old) (seen new) (λ q.
+    get-seen new q
+    ∙ ap (lookup (same_key q)) changed
+    ∙ lookup-map_values change (same_key q) old
+    ∙ ap (option_map change) (sym (get-seen old q)))

@@ -2,11 +2,13 @@
 ghost use Rattle.std.specs.Prelude.{◌≡◌, ◌+◌, ◌<◌, ◌≤◌, IfOk, OnOk, option_copied};
 ghost use Rattle.std.specs.FinMap as finite;
 ghost use Rattle.indexmap.specs.IndexMap.{insert_entry};
+ghost use Rattle.access_lists.specs.Acls.{each_entry, without_actor, without_group};
+ghost use Rattle.access_lists.specs.MapValues.{map_values};
 ghost use Rattle.object_store.specs.Keys.{same_key};
 
 use crate::key::Key;
 use access_lists::Acl;
-use doc_tree::NoMemory;
+use doc_tree::{NoMemory, Text};
 use indexmap::IndexMap;
 use std::alloc::Global;
 use std::hash::RandomState;
@@ -81,6 +83,30 @@ impl Lists {
         ensures spare { self.old.spare ≤ self.new.spare }
     {
         self.items.swap_remove(key)
+    }
+
+    /// Takes an actor out of every entry of every list. It takes no memory.
+    pub(crate) fn take_actor(&mut self, name: &Text)
+        ensures lists { self.new.lists ≡ map_values (each_entry (without_actor name.now)) self.old.lists }
+        ensures spare { self.old.spare ≤ self.new.spare }
+    {
+        // Every list stays: `retain` reaches each where it stands.
+        self.items.retain(|_, acl| {
+            acl.take_actor(name);
+            true
+        });
+    }
+
+    /// Takes a group out of every entry of every list. It takes no memory.
+    pub(crate) fn take_group(&mut self, name: &Text)
+        ensures lists { self.new.lists ≡ map_values (each_entry (without_group name.now)) self.old.lists }
+        ensures spare { self.old.spare ≤ self.new.spare }
+    {
+        // Every list stays, as above.
+        self.items.retain(|_, acl| {
+            acl.take_group(name);
+            true
+        });
     }
 
     /// Equal lists with memory of their own, and room for no more.

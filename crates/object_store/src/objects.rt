@@ -5,6 +5,8 @@ ghost use Rattle.std.specs.List.{filter_map};
 ghost use Rattle.doc_tree.specs.Tree.{doc_of};
 ghost use Rattle.indexmap.specs.IndexMap.{get, spare};
 ghost use Rattle.doc_tree.specs.Valid.{InOrder};
+ghost use Rattle.access_lists.specs.Acls.{each_entry, without_actor, without_group};
+ghost use Rattle.access_lists.specs.MapValues.{map_values};
 ghost use Rattle.object_store.specs.declared.key.Key.{Key as AKey};
 ghost use Rattle.object_store.specs.Keys.{key, same_key};
 ghost use Rattle.object_store.specs.Kept.{found, IsReady};
@@ -109,6 +111,26 @@ impl Objects {
         ensures spare { self.old.spare ≤ self.new.spare }
     {
         self.lists.take(key)
+    }
+
+    /// Takes an actor out of every entry of every access list, as one that is deleted goes. It takes no
+    /// memory, and a look at each list.
+    pub fn take_actor(&mut self, name: &Text)
+        ensures lists { self.new.lists ≡ map_values (each_entry (without_actor name.now)) self.old.lists }
+        ensures objects { self.new.objects ≡ self.old.objects }
+        ensures spare { self.old.spare ≤ self.new.spare }
+    {
+        self.lists.take_actor(name);
+    }
+
+    /// Takes a group out of every entry of every access list, as one that is deleted goes. It takes no
+    /// memory, and a look at each list.
+    pub fn take_group(&mut self, name: &Text)
+        ensures lists { self.new.lists ≡ map_values (each_entry (without_group name.now)) self.old.lists }
+        ensures objects { self.new.objects ≡ self.old.objects }
+        ensures spare { self.old.spare ≤ self.new.spare }
+    {
+        self.lists.take_group(name);
     }
 
     /// Puts an object in, and gives back the one that had its key, if there was one. It takes no

@@ -276,6 +276,17 @@ fn take_list(objects: &mut Objects, told: &mut String, key: &Key) -> Result<(), 
     add_list(told, objects.take_acl(key))
 }
 
+// `forget actor NAME` or `forget group NAME`, of every list.
+fn forget(alloc: Global, objects: &mut Objects, what: &str, name: &str) -> Result<(), NoMemory> {
+    let name = Text::from_str(alloc, name)?;
+    if what == "actor" {
+        objects.take_actor(&name);
+    } else {
+        objects.take_group(&name);
+    }
+    Ok(())
+}
+
 fn deed(
     alloc: Global,
     objects: &mut Objects,
@@ -290,6 +301,7 @@ fn deed(
         "list" => put_list(alloc, objects, told, kind, rest),
         "take" => take_body(objects, told, &key(alloc, kind, rest)?),
         "unlist" => take_list(objects, told, &key(alloc, kind, rest)?),
+        "forget" => forget(alloc, objects, word, rest),
         _ => put_both(alloc, objects, kind, rest),
     }
 }
@@ -375,6 +387,10 @@ unlist role web1 -> bob: -/- -/- body/- -/cat
 copied both node web2 fay -> : -/- body/fay body/- -/cat
 both node web1 gus -> : body/gus -/- body/- -/cat
 take role web1 -> three: body/gus -/- -/- -/cat
+list role web1 cat -> none: body/gus -/- -/cat -/cat
+forget group cat -> : body/gus -/- -/cat -/cat
+forget actor gu -> : body/gus -/- -/cat -/cat
+forget actor cat -> : body/gus -/- -/nobody -/nobody
 ";
 
 fn lists(alloc: Global, objects: &mut Objects) -> Result<String, NoMemory> {

@@ -19,9 +19,9 @@ use Rattle.object_store.specs.Keys.{is_of, names_of, key_cmp_total, key_cmp_ties
 use Rattle.object_store.specs.Objects.{Objects, key, key_cmp}
 use Rattle.object_store.specs.declared.key.Key.{Key}
 use Rattle.org_core.specs.declared.moves.Move.{Move}
-use Rattle.org_core.specs.declared.moves.Move.TheVariants.{Put, TakeOut}
-use Rattle.org_core.specs.Moves.{after_moves}
-use Rattle.org_core.specs.States.{State, objects_of, has_object}
+use Rattle.org_core.specs.declared.moves.Move.TheVariants.{Put, TakeOut, TakeList}
+use Rattle.org_core.specs.Moves.{after_moves, with_objects}
+use Rattle.org_core.specs.States.{State, Organisation, objects_of, has_object}
 use Rattle.org_core.specs.Conditions.{has, IsStored, Conditions, MeetsConditions}
 
 tied : (r : Ordering) → is_eq r ≡ true → r ≡ Equal
@@ -190,13 +190,13 @@ keeps_bag_removal bag objects meets =
     cc (sym listed ∙ left.1))
 
 -- the moves that take out items, and then others
-pub items_taken_out : (bag : List ℕ) (ids : List (List ℕ)) (rest : List Move) (objects : Objects)
-    → after_moves (map (λ (id : List ℕ). TakeOut (key Item (item_name bag id))) ids ++ rest) (Some (record { objects = objects })) ≡ after_moves rest (Some (record { objects = without_items bag ids objects }))
-items_taken_out bag [] rest objects = refl
-items_taken_out bag (id ∷ ids) rest objects = items_taken_out bag ids rest (finite.remove objects (key Item (item_name bag id)))
+pub items_taken_out : (bag : List ℕ) (ids : List (List ℕ)) (rest : List Move) (o : Organisation)
+    → after_moves (map (λ (id : List ℕ). TakeOut (key Item (item_name bag id))) ids ++ rest) (Some o) ≡ after_moves rest (Some (with_objects (without_items bag ids o.objects) o))
+items_taken_out bag [] rest o = refl
+items_taken_out bag (id ∷ ids) rest o = items_taken_out bag ids rest (with_objects (finite.remove o.objects (key Item (item_name bag id))) o)
 
 -- nobody stays nobody
-pub nobody_taken_out : (bag : List ℕ) (ids : List (List ℕ)) → after_moves (map (λ (id : List ℕ). TakeOut (key Item (item_name bag id))) ids ++ TakeOut (key Bag bag) ∷ []) None ≡ None
+pub nobody_taken_out : (bag : List ℕ) (ids : List (List ℕ)) → after_moves (map (λ (id : List ℕ). TakeOut (key Item (item_name bag id))) ids ++ TakeOut (key Bag bag) ∷ TakeList (key Bag bag) ∷ []) None ≡ None
 nobody_taken_out bag [] = refl
 nobody_taken_out bag (id ∷ ids) = nobody_taken_out bag ids
 
@@ -260,7 +260,16 @@ take_out_keeps None k meets no_bag no_default = tt
 take_out_keeps (Some organisation) k meets no_bag no_default = keeps_take_out organisation.objects k meets no_bag no_default
 
 pub bag_removal_keeps : (state : State) (bag : List ℕ) → MeetsConditions state
-    → MeetsConditions (after_moves (map (λ (id : List ℕ). TakeOut (key Item (item_name bag id))) (ids_in bag (objects_of state)) ++ TakeOut (key Bag bag) ∷ []) state)
+    → MeetsConditions (after_moves (map (λ (id : List ℕ). TakeOut (key Item (item_name bag id))) (ids_in bag (objects_of state)) ++ TakeOut (key Bag bag) ∷ TakeList (key Bag bag) ∷ []) state)
 bag_removal_keeps None bag meets = subst MeetsConditions (sym (nobody_taken_out bag (ids_in bag finite.empty))) tt
-bag_removal_keeps (Some organisation) bag meets =
-    subst MeetsConditions (sym (items_taken_out bag (ids_in bag organisation.objects) (TakeOut (key Bag bag) ∷ []) organisation.objects)) (keeps_bag_removal bag organisation.objects meets)
+bag_removal_keeps (Some o) bag meets =
+    subst MeetsConditions (sym (items_taken_out bag (ids_in bag o.objects) (TakeOut (key Bag bag) ∷ TakeList (key Bag bag) ∷ []) o)) (keeps_bag_removal bag o.objects meets)
+
+-- ---- the objects alone count
+
+-- these moves change the objects as one put does
+pub same_objects : (one other : State) → objects_of one ≡ objects_of other → is_some one ≡ is_some other → MeetsConditions one → MeetsConditions other
+same_objects None None same there meets = tt
+same_objects None (Some o) same there meets = cc
+same_objects (Some o) None same there meets = tt
+same_objects (Some o) (Some p) same there meets = subst Conditions same meets

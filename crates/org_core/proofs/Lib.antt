@@ -1,2 +1,4 @@
 pub mod ConditionsLemmas
 pub mod ListingLemmas
+pub mod MovesLemmas
+pub mod PlainLemmas

@@ -1,5 +1,7 @@
 -- The collections of objects that have one shape: nodes, roles, environments and clients.
 use Rattle.std.specs.Prelude.{ℕ, List, codes}
+use Rattle.access_lists.specs.declared.starting.Container.{Container}
+use Rattle.access_lists.specs.declared.starting.Container.TheVariants as container
 use Rattle.doc_tree.specs.declared.kind.Kind.{Kind}
 use Rattle.doc_tree.specs.declared.kind.Kind.TheVariants.{Node, Role, Environment, Client}
 use Rattle.org_core.specs.declared.collections.Collection.{Collection}
@@ -18,3 +20,10 @@ segment_of Nodes = codes "nodes"
 segment_of Roles = codes "roles"
 segment_of Environments = codes "environments"
 segment_of Clients = codes "clients"
+
+-- the container of a collection's objects
+abbrev pub container_of : Collection → Container
+container_of Nodes = container.Nodes
+container_of Roles = container.Roles
+container_of Environments = container.Environments
+container_of Clients = container.Clients

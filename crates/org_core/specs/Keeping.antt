@@ -3,7 +3,7 @@ use Rattle.std.specs.Prelude.{◌≡◌, false, None, Ok}
 use Rattle.org_core.specs.declared.requests.Request.{Request}
 use Rattle.org_core.specs.Conditions.{MeetsConditions}
 use Rattle.org_core.specs.Contexts.{Context}
-use Rattle.org_core.specs.Moves.{after_moves}
+use Rattle.org_core.specs.Moves.{IsOrderly, after_moves}
 use Rattle.org_core.specs.Outcomes.{Decided, outcome_of}
 use Rattle.org_core.specs.Rules.{Rules}
 use Rattle.org_core.specs.States.{State}
@@ -19,3 +19,11 @@ KeepsConditions {Route} {Operation} rules =
     (context : Context) (route : Route) (request : Request) (operation : Operation) → MeetsConditions context.state
     → rules.operation context route request ≡ Ok operation → rules.lacks context operation ≡ false → rules.own_refusal context operation ≡ None
     → LeadsToConditions context.state (rules.does context operation)
+
+-- what was decided is made of moves that are orderly
+abbrev pub MakesOrderly : Decided → Type 0
+MakesOrderly decided = IsOrderly (outcome_of decided.answer).moves
+
+-- whatever a group does is
+abbrev pub IsOrderlyGroup : {Route Operation : Type 0} → Rules Route Operation → Type 0
+IsOrderlyGroup {Route} {Operation} rules = (context : Context) (operation : Operation) → MakesOrderly (rules.does context operation)

@@ -3,12 +3,16 @@ pub mod Collections
 pub mod Replies
 pub mod Refusals
 pub mod States
+pub mod Comers
 pub mod Stored
+pub mod Named
 pub mod Moves
 pub mod Bodies
 pub mod Contexts
 pub mod Needs
 pub mod Outcomes
+pub mod Creating
 pub mod Rules
 pub mod Conditions
 pub mod Keeping
+pub mod Plain

@@ -1,25 +1,43 @@
 -- The permissions that an operation needs, and the first that its caller lacks.
-use Rattle.std.specs.Prelude.{Bool, false, cond, List, [], ◌∷◌, Option, Some, None}
+use Rattle.std.specs.Prelude.{ℕ, Bool, false, cond, List, [], ◌∷◌, Option, Some, None}
+use Rattle.access_lists.specs.declared.acl.Acl.{Acl}
+use Rattle.access_lists.specs.declared.perm.Perm.{Perm}
+use Rattle.access_lists.specs.Acls.{entry_of}
+use Rattle.access_lists.specs.Members.{Membership}
+use Rattle.access_lists.specs.Permitted.{is_permitted}
+use Rattle.access_lists.specs.Strangers.{is_actor}
 use Rattle.org_core.specs.declared.needs.Need.{Need}
 use Rattle.org_core.specs.declared.needs.Need.TheVariants.{Operator, Listed}
-use Rattle.org_core.specs.declared.needs.Permission.{Permission}
 use Rattle.org_core.specs.declared.refusals.Refusal.{Refusal}
 use Rattle.org_core.specs.declared.refusals.Refusal.TheVariants.{Forbidden}
 use Rattle.org_core.specs.Contexts.{Context}
 use Rattle.org_core.specs.Requests.{is_operator}
+use Rattle.org_core.specs.States.{list_in, membership_of}
 
 -- the permission that is needed
-abbrev pub permission_of : Need → Permission
+abbrev pub permission_of : Need → Perm
 permission_of (Operator permission) = permission
 permission_of (Listed permission key) = permission
 
--- the caller is known: the operator is. Clients and users are known once access lists are kept
-abbrev pub is_known : Context → Bool
-is_known context = is_operator context.caller
+-- a caller with a name has what holds of it, and one without has nothing
+abbrev pub if_named : (List ℕ → Bool) → Option (List ℕ) → Bool
+if_named holds None = false
+if_named holds (Some name) = holds name
 
--- a list grants it to the caller. No access list is kept yet, so none grants anything
+-- the caller is known: the operator, a user or a client of the organisation
+abbrev pub is_known : Context → Bool
+is_known context = if_named (is_actor (membership_of context.state)) context.caller
+
+-- an access list, if there is one, grants a permission to a caller
+abbrev pub grants : Membership → Perm → Option (List ℕ) → Option Acl → Bool
+grants membership permission caller None = false
+grants membership permission caller (Some list) = if_named (is_permitted membership (entry_of permission list)) caller
+
+-- what is needed is granted to the caller: by the access list of the object of the key, and to nobody but the operator
+-- where only the operator may do it
 abbrev pub is_granted : Context → Need → Bool
-is_granted context need = false
+is_granted context (Operator permission) = false
+is_granted context (Listed permission key) = grants (membership_of context.state) permission context.caller (list_in context.state key)
 
 -- the first of these needs that isn't granted to the caller
 abbrev pub first_lacking : Context → List Need → Option Refusal

@@ -1,8 +1,7 @@
 -- What each refusal is answered with, and the first of several refusals.
 use Rattle.std.specs.Prelude.{◌≡◌, Bool, cond, ℕ, List, [], ◌∷◌, ◌++◌, Option, Some, None, Result, Ok, Err, codes}
 use Rattle.doc_tree.specs.Doc.{Doc, words, list, no_docs, then_doc}
-use Rattle.org_core.specs.declared.needs.Permission.{Permission}
-use Rattle.org_core.specs.declared.needs.Permission.TheVariants.{Create, Read, Update, Delete, Grant}
+use Rattle.access_lists.specs.Acls.{word_of}
 use Rattle.org_core.specs.declared.refusals.Refusal.{Refusal}
 use Rattle.org_core.specs.declared.refusals.Refusal.TheVariants.{TooLarge, VersionNotTaken, NotImplemented, NotFound, NotAllowed, UnknownCaller, NotJson, TooDeep, NotWhole, BadField, Forbidden, AlreadyExists}
 use Rattle.org_core.specs.declared.refusals.Stop.{Stop}
@@ -25,14 +24,6 @@ status_of (BadField field) = 400
 status_of (Forbidden permission) = 403
 status_of AlreadyExists = 409
 
--- the word of a permission
-abbrev pub permission_word : Permission → List ℕ
-permission_word Create = codes "create"
-permission_word Read = codes "read"
-permission_word Update = codes "update"
-permission_word Delete = codes "delete"
-permission_word Grant = codes "grant"
-
 -- the words of a refusal
 abbrev pub words_of : Refusal → List ℕ
 words_of TooLarge = codes "body is too large"
@@ -45,7 +36,7 @@ words_of NotJson = codes "body is not JSON"
 words_of TooDeep = codes "body is too deep"
 words_of NotWhole = codes "number is not whole"
 words_of (BadField field) = codes "bad field " ++ field
-words_of (Forbidden permission) = codes "missing " ++ (permission_word permission ++ codes " permission")
+words_of (Forbidden permission) = codes "missing " ++ (word_of permission ++ codes " permission")
 words_of AlreadyExists = codes "already exists"
 
 -- {"error":["WORDS"]}

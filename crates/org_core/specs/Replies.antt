@@ -23,3 +23,7 @@ created uri = with_body 201 (one_key (codes "uri") (words uri))
 -- each name with its path, which is the name behind this front
 abbrev pub paths_behind : List ℕ → List (List ℕ) → Doc
 paths_behind front names = dict (pairs_of (map (λ name. (name, words (front ++ name))) names))
+
+-- the path of an organisation
+abbrev pub org_uri : List ℕ → List ℕ
+org_uri org = codes "/organizations/" ++ org

@@ -7,15 +7,21 @@ use Rattle.std.specs.Coded.{Coded, code_by, coded_list, coded_ℕ, coded_bool, c
 use Rattle.std.specs.FinMap as map
 use Rattle.doc_tree.specs.Doc.{Doc}
 use Rattle.doc_tree.specs.declared.kind.Kind.{Kind}
-use Rattle.object_store.specs.Objects.{Objects, key, Store, store_code}
+use Rattle.access_lists.specs.declared.acl.Acl.{Acl}
+use Rattle.access_lists.specs.Members.{Membership, nobody}
+use Rattle.access_lists.specs.Rooms as groups
+use Rattle.object_store.specs.Objects.{Objects, Lists, key, Store, store_code, smaller}
+use Rattle.object_store.specs.declared.key.Key.{Key}
 
 -- names are ordered by their bytes
 abbrev pub name_cmp : List ℕ → List ℕ → Ordering
 name_cmp = slice_cmp nat_cmp
 
--- what an organisation that is there holds
+-- what an organisation that is there holds: its objects, their access lists, and its users, clients and groups
 pub record Organisation : Type 0 where
   pub objects : Objects
+  pub lists : Lists
+  pub membership : Membership
 
 -- none, or an organisation that is there
 abbrev pub State : Type 0
@@ -23,12 +29,26 @@ State = Option Organisation
 
 -- an organisation without anything
 abbrev pub nothing : Organisation
-nothing = record { objects = map.empty }
+nothing = record { objects = map.empty; lists = map.empty; membership = nobody }
 
 -- the objects of a state, of which none has any
 abbrev pub objects_of : State → Objects
 objects_of None = map.empty
 objects_of (Some organisation) = organisation.objects
+
+-- its access lists
+abbrev pub lists_of : State → Lists
+lists_of None = map.empty
+lists_of (Some organisation) = organisation.lists
+
+-- its users, clients and groups
+abbrev pub membership_of : State → Membership
+membership_of None = nobody
+membership_of (Some organisation) = organisation.membership
+
+-- the access list of the object of this key
+abbrev pub list_in : State → Key → Option Acl
+list_in state k = map.get (lists_of state) k
 
 -- the object of this kind and name
 abbrev pub object_in : State → Kind → List ℕ → Option Doc
@@ -38,31 +58,33 @@ object_in state kind name = map.get (objects_of state) (key kind name)
 abbrev pub has_object : State → Kind → List ℕ → Bool
 has_object state kind name = is_some (object_in state kind name)
 
--- what is kept of an organisation: its name, whether it is there, and its objects with room for more.
--- One that isn't there has no objects, and may have room
+-- what is kept of an organisation: its name, whether it is there, its objects and their lists, and its users, clients
+-- and groups, all with room for more. One that isn't there holds nothing, and may have room
 pub record Kept : Type 0 where
   pub name : List ℕ
   pub there : Bool
   pub objects : Store
+  pub groups : groups.Kept
 
--- who isn't there has no objects
-abbrev pub IsNobody : Bool → Store → Type 0
-IsNobody there store = there ≡ false → store.objects ≡ map.empty
+-- who isn't there holds nothing
+abbrev pub IsNobody : Bool → Store → groups.Kept → Type 0
+IsNobody there store members = there ≡ false → (store.objects ≡ map.empty) × (store.lists ≡ map.empty) × (members.membership ≡ nobody)
 
 -- the state, for which room doesn't count
-abbrev pub state_from : Bool → Store → State
-state_from false store = None
-state_from true store = Some (record { objects = store.objects })
+abbrev pub state_from : Bool → Store → groups.Kept → State
+state_from false store members = None
+state_from true store members = Some (record { objects = store.objects; lists = store.lists; membership = members.membership })
 
 -- the state of an organisation as it is kept
 abbrev pub state_in : Kept → State
-state_in kept = state_from kept.there kept.objects
+state_in kept = state_from kept.there kept.objects kept.groups
 
--- how many more objects can be put in without memory
-abbrev pub room_in : Kept → ℕ
-room_in kept = kept.objects.spare
+-- how many more objects, lists, users, clients and groups can be put in without memory, of each
+abbrev pub room_for : Store → groups.Kept → ℕ
+room_for store members = smaller store.spare members.spare
 
--- what is kept is stored as its three parts
+-- what is kept is stored as its four parts
 abbrev pub kept_code : Coded Kept
 kept_code =
-    code_by (List ℕ × (Bool × Store)) (coded× (coded_list coded_ℕ) (coded× coded_bool store_code)) (λ k. (k.name, (k.there, k.objects))) (λ p. record { name = p.0; there = p.1.0; objects = p.1.1 }) (λ _. refl)
+    code_by (List ℕ × (Bool × (Store × groups.Kept))) (coded× (coded_list coded_ℕ) (coded× coded_bool (coded× store_code groups.kept_code)))
+    (λ k. (k.name, (k.there, (k.objects, k.groups)))) (λ p. record { name = p.0; there = p.1.0; objects = p.1.1.0; groups = p.1.1.1 }) (λ _. refl)

@@ -1,13 +1,19 @@
-//! The tree of a body, or why it has none.
+//! The tree of a body and the object that it says, or why there is none.
 
-ghost use Rattle.std.specs.Prelude.{◌≡◌};
+ghost use Rattle.std.specs.Prelude.{◌≡◌, IsTrue, Ok, Some, option_copied};
 ghost use Rattle.std.specs.Result.{result_map_both};
+ghost use Rattle.doc_tree.specs.Name.{is_name};
 ghost use Rattle.doc_tree.specs.Tree.{doc_of};
+ghost use Rattle.object_forms.specs.Kinds.{IsFormed};
 ghost use Rattle.org_core.specs.Bodies as spec;
+ghost use Rattle.org_core.specs.Refusals.{Tells};
 
-use crate::refusals::Refusal;
+use crate::refusals::{Refusal, Stop};
 use crate::requests::{BadBody, Body};
-use doc_tree::Tree;
+use crate::stored::Stored;
+use doc_tree::{Kind, Name, Text, Tree};
+use object_forms::{FormFault, read_object};
+use std::alloc::Global;
 
 /// The tree of a body; or 400, by the fault of its text, also of a body that is missing; or 413.
 pub fn document_in(body: &Body) -> Result<&Tree, Refusal>
@@ -28,5 +34,55 @@ fn unreadable(fault: BadBody) -> Refusal
         BadBody::NotJson => Refusal::NotJson,
         BadBody::TooDeep => Refusal::TooDeep,
         BadBody::NotWhole => Refusal::NotWhole,
+    }
+}
+
+/// The object of this kind that a body says, as it is stored; where it is replaced, of this name.
+pub fn object_in_body(
+    alloc: Global,
+    kind: Kind,
+    name: Option<&Name>,
+    body: &Body,
+) -> Result<Stored, Stop>
+    requires { IsFormed kind }
+    ensures { Tells result (spec.object_in_body kind (option_copied name.entry) body.now) }
+{
+    match document_in(body) {
+        Ok(tree) => object_said(alloc, kind, name, tree),
+        Err(refusal) => Err(Stop::Refused(refusal)),
+    }
+}
+
+fn object_said(alloc: Global, kind: Kind, name: Option<&Name>, tree: &Tree) -> Result<Stored, Stop>
+    requires { IsFormed kind }
+    ensures { Tells result (spec.object_said kind (option_copied name.entry) (Ok (doc_of tree.now))) }
+{
+    match read_object(alloc, kind, tree, name) {
+        Ok(object) => Ok(Stored::of(object)),
+        Err(FormFault::BadField(field)) => Err(Stop::Refused(Refusal::BadField(field))),
+        Err(FormFault::NoMemory) => Err(Stop::NoMemory),
+    }
+}
+
+/// The object of this name that a body says.
+pub fn object_named(alloc: Global, kind: Kind, name: &Text, body: &Body) -> Result<Stored, Stop>
+    requires kind { IsFormed kind }
+    requires name { IsTrue (is_name name.now) }
+    ensures { Tells result (spec.object_in_body kind (Some name.now) body.now) }
+{
+    match Name::of(name.copy(alloc)?) {
+        Ok(name) => object_in_body(alloc, kind, Some(&name), body),
+        Err(_) => unreachable!(),
+    }
+}
+
+/// The refusal of a body that is for what nobody can have made: it has only to be readable, and then
+/// nothing is there.
+pub fn absent(body: &Body) -> Refusal
+    ensures { result ≡ spec.absent (spec.document_in body.now) }
+{
+    match document_in(body) {
+        Ok(_) => Refusal::NotFound,
+        Err(refusal) => refusal,
     }
 }

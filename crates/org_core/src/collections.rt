@@ -3,6 +3,7 @@
 ghost use Rattle.std.specs.Prelude.{◌≡◌};
 ghost use Rattle.org_core.specs.Collections as spec;
 
+use access_lists::Container;
 use doc_tree::Kind;
 
 /// A collection whose objects are listed, created, read, replaced and removed by one rule.
@@ -40,6 +41,18 @@ impl Collection {
             Collection::Roles => "roles",
             Collection::Environments => "environments",
             Collection::Clients => "clients",
+        }
+    }
+
+    /// The container of its objects, whose name is the segment.
+    pub fn container(self) -> Container
+        ensures { result ≡ spec.container_of self }
+    {
+        match self {
+            Collection::Nodes => Container::Nodes,
+            Collection::Roles => Container::Roles,
+            Collection::Environments => Container::Environments,
+            Collection::Clients => Container::Clients,
         }
     }
 }

@@ -4,7 +4,10 @@
 
 mod bodies;
 mod collections;
+mod comers;
 mod contexts;
+mod creating;
+mod group_members;
 mod groups;
 mod moves;
 mod needs;
@@ -17,18 +20,22 @@ mod stored;
 #[cfg(test)]
 mod tests;
 
-pub use bodies::document_in;
+pub use access_lists::Perm;
+pub use bodies::{absent, document_in, object_in_body, object_named};
 pub use collections::Collection;
+pub use comers::Comer;
 pub use contexts::{Context, Finder, Lent, NoFinder, is_operator};
+pub use creating::{add_with_list, create_by, created_list};
+pub use group_members::GroupMembers;
 pub use groups::{Group, Prepared};
-pub use moves::{Move, Moves, puts_in};
-pub use needs::{Need, Needs, Permission};
+pub use moves::{Move, Moves, one_move};
+pub use needs::{Need, Needs, first_lacking, is_known, key_of, listed_need};
 pub use org_state::OrgState;
 pub use refusals::{Refusal, Stop, out_of_memory};
-pub use replies::{Reply, created, joined, shown, shown_key, shown_paths};
+pub use replies::{ORGANISATIONS, Reply, created, joined, org_uri, shown, shown_key, shown_paths};
 pub use requests::{BadBody, Body, Parameter, Parameters, Place, Request};
 pub use routes::{
     AccessRoute, CookbookRoute, DataRoute, ObjectsRoute, OrganisationRoute, PolicyRoute, Route,
     SearchRoute,
 };
-pub use stored::Stored;
+pub use stored::{Stored, named_by};

@@ -1,31 +1,37 @@
 //! The state of one organisation, as it is kept.
 
-ghost use Rattle.std.specs.Prelude.{◌≡◌, ◌+◌, ◌≤◌, None, cond, is_some, IfOk, OnOk, option_map};
+ghost use Rattle.std.specs.Prelude.{◌≡◌, ◌+◌, ◌≤◌, None, Some, cond, is_some, true, IfOk, OnOk, option_copied, option_map};
 ghost use Rattle.doc_tree.specs.Tree.{doc_of};
 ghost use Rattle.doc_tree.specs.Valid.{InOrder};
 ghost use Rattle.object_store.specs.Items.{ids_in, item_name};
 ghost use Rattle.object_store.specs.Objects.{names_in};
 ghost use Rattle.doc_tree.specs.declared.kind.Kind.TheVariants as kinds;
 ghost use Rattle.org_core.specs.Conditions.{MeetsConditions};
-ghost use Rattle.org_core.specs.States.{state_in, state_from, objects_of, object_in, has_object, room_in, IsNobody};
-ghost use Rattle.org_core.specs.Moves.{after_move, after_moves, is_put, puts_in};
+ghost use Rattle.std.specs.FinMap as finite;
+ghost use Rattle.access_lists.specs.Changes.{with_client, with_groups, with_user, without_client, without_user};
+ghost use Rattle.org_core.specs.States.{state_in, state_from, objects_of, object_in, has_object, list_in, membership_of, room_for, IsNobody};
+ghost use Rattle.org_core.specs.Moves.{HasPlace, HasPlaceFirst, HasRoom, IsOrderly, after_move, after_moves, group_joined, joins, leaves, lists_without_actor, lists_without_group, takes_room};
 
-use crate::moves::{Move, Moves};
+use crate::comers::Comer;
+use crate::moves::{Move, Moves, puts_in};
+use access_lists::{Acl, Groups, MemberKind};
 use doc_tree::{Kind, NoMemory, Steps, Text, Texts, Tree};
-use object_store::Objects;
+use object_store::{Key, Objects};
 use std::alloc::Global;
 use std::hash::RandomState;
 use std::marker::Model;
 use std::sync::ledger::Ledger;
 
 /// One organisation: its name, whether it is there, and what it holds. Contracts see its name, its
-/// state, `state_in`, and the room for further objects, `room_in`. Its objects meet the conditions of
-/// every organisation's (`MeetsConditions`), which is what its type says.
+/// state, `state_in`, and the room for moves, `HasRoom`. Its state meets the conditions of every
+/// organisation's (`MeetsConditions`), which is what its type says.
 #[derive(Drop)]
 pub struct OrgState {
     org: Text,
     there: bool,
     objects: Objects,
+    groups: Groups,
+    hasher: RandomState,
 }
 
 impl Model for OrgState {
@@ -37,10 +43,10 @@ impl Model for OrgState {
 
     ghost coded = { kept_code };
 
-    ghost view = { λ s. record { name = s.org; there = s.there; objects = s.objects } };
+    ghost view = { λ s. record { name = s.org; there = s.there; objects = s.objects; groups = s.groups } };
 
-    // One that isn't there has no objects, and the objects of one that is meet the conditions.
-    ghost invariant = { λ s. IsNobody s.there s.objects × MeetsConditions (states.state_from s.there s.objects) };
+    // One that isn't there holds nothing, and the state of one that is meets the conditions.
+    ghost invariant = { λ s. IsNobody s.there s.objects s.groups × MeetsConditions (states.state_from s.there s.objects s.groups) };
 }
 
 impl OrgState {
@@ -53,6 +59,8 @@ impl OrgState {
             org,
             there: false,
             objects: Objects::none(alloc, hasher),
+            groups: Groups::none(alloc, hasher),
+            hasher,
         }
     }
 
@@ -79,7 +87,28 @@ impl OrgState {
             org: self.org.copy(alloc)?,
             there: self.there,
             objects: self.objects.copy(alloc)?,
+            groups: self.groups.copy(alloc)?,
+            hasher: self.hasher,
         })
+    }
+
+    /// The access list of the object of this key, if it has one. It takes no memory.
+    pub fn acl(&self, key: &Key) -> Option<&Acl>
+        ensures { option_copied result ≡ list_in (state_in self.now) key.now }
+    {
+        self.objects.acl(key)
+    }
+
+    /// The users, clients and groups of the organisation, of which one that isn't there has none.
+    pub fn groups(&self) -> &Groups
+        ensures { result.now.membership ≡ membership_of (state_in self.now) }
+    {
+        &self.groups
+    }
+
+    /// What names are hashed with, for a group that is to be put in.
+    pub fn hasher(&self) -> RandomState {
+        self.hasher
     }
 
     /// Whether an object of this kind and name is there. No object is looked at.
@@ -128,15 +157,6 @@ impl OrgState {
         self.objects().ids(alloc, bag)
     }
 
-    /// Makes room for so many more objects.
-    pub fn reserve(&mut self, count: usize) -> Result<(), NoMemory>
-        ensures name { self.new.name ≡ self.old.name }
-        ensures state { state_in self.new ≡ state_in self.old }
-        ensures room { OnOk result (count ≤ room_in self.new) }
-    {
-        self.objects.reserve(count)
-    }
-
     /// That the state meets the conditions of every organisation's, which its type says. It does nothing.
     pub fn meets_conditions(&self)
         ensures { MeetsConditions (state_in self.now) }
@@ -144,48 +164,167 @@ impl OrgState {
         let _ = &self.there;
     }
 
+    /// Makes room for moves, of which none but the first brings somebody.
+    pub fn reserve(&mut self, moves: &Moves) -> Result<(), NoMemory>
+        requires { IsOrderly moves.now }
+        ensures name { self.new.name ≡ self.old.name }
+        ensures state { state_in self.new ≡ state_in self.old }
+        ensures room { OnOk result (HasRoom moves.now self.new.objects self.new.groups) }
+    {
+        let count = puts_in(moves.as_slice());
+        self.objects.reserve(count)?;
+        self.groups.reserve(count)?;
+        make_place_first(&mut self.groups, moves.as_slice())
+    }
+
     /// Makes moves for which there is room, in order. They lead to a state that meets the conditions.
     /// It takes no memory.
     pub fn make_all(&mut self, moves: Moves)
-        requires room { puts_in moves ≤ room_in self.old }
+        requires room { HasRoom moves self.old.objects self.old.groups }
         requires conditions { MeetsConditions (after_moves moves (state_in self.old)) }
         ensures name { self.new.name ≡ self.old.name }
         ensures state { state_in self.new ≡ after_moves moves (state_in self.old) }
     {
-        make_all(&mut self.there, &mut self.objects, moves);
+        make_all(&mut self.there, &mut self.objects, &mut self.groups, moves);
+    }
+}
+
+// Makes room for one more member in the group that the first of these moves has somebody join.
+pub(crate) fn make_place_first(groups: &mut Groups, moves: &[Move]) -> Result<(), NoMemory>
+    ensures membership { groups.new.membership ≡ groups.old.membership }
+    ensures spare { groups.new.spare ≡ groups.old.spare }
+    ensures place { OnOk result (HasPlaceFirst moves.now groups.new) }
+{
+    match moves {
+        [] => Ok(()),
+        [first, ..] => make_place(groups, first.group_joined()),
+    }
+}
+
+fn make_place(groups: &mut Groups, group: Option<&Text>) -> Result<(), NoMemory>
+    ensures membership { groups.new.membership ≡ groups.old.membership }
+    ensures spare { groups.new.spare ≡ groups.old.spare }
+    ensures place { OnOk result (HasPlace (option_copied group.entry) groups.new) }
+{
+    match group {
+        Some(name) => groups.reserve_in(name, 1),
+        None => Ok(()),
     }
 }
 
 // Makes moves in order. Between two of them the conditions needn't hold.
-pub(crate) fn make_all(there: &mut bool, objects: &mut Objects, moves: Moves)
-    requires room { puts_in moves ≤ objects.old.spare }
-    requires nobody { IsNobody there.old objects.old }
-    ensures state { state_from there.new objects.new ≡ after_moves moves (state_from there.old objects.old) }
-    ensures nobody { IsNobody there.new objects.new }
+pub(crate) fn make_all(there: &mut bool, objects: &mut Objects, groups: &mut Groups, moves: Moves)
+    requires room { HasRoom moves objects.old groups.old }
+    requires nobody { IsNobody there.old objects.old groups.old }
+    ensures state { state_from there.new objects.new groups.new ≡ after_moves moves (state_from there.old objects.old groups.old) }
+    ensures nobody { IsNobody there.new objects.new groups.new }
 {
     for one in moves.into_vec() {
-        make(there, objects, one);
+        make(there, objects, groups, one);
     }
 }
 
-fn make(there: &mut bool, objects: &mut Objects, one: Move)
-    requires room { cond (is_put one) 1 0 ≤ objects.old.spare }
-    requires nobody { IsNobody there.old objects.old }
-    ensures state { state_from there.new objects.new ≡ after_move one (state_from there.old objects.old) }
-    ensures room { objects.old.spare ≤ objects.new.spare + cond (is_put one) 1 0 }
-    ensures nobody { IsNobody there.new objects.new }
+#[tactic(auto, unfolding(crate::specs::Moves::takes_room))]
+fn make(there: &mut bool, objects: &mut Objects, groups: &mut Groups, one: Move)
+    requires room { cond (takes_room one) 1 0 ≤ room_for objects.old groups.old }
+    requires place { HasPlace (group_joined one) groups.old }
+    requires nobody { IsNobody there.old objects.old groups.old }
+    ensures state { state_from there.new objects.new groups.new ≡ after_move one (state_from there.old objects.old groups.old) }
+    ensures room { room_for objects.old groups.old ≤ room_for objects.new groups.new + cond (takes_room one) 1 0 }
+    ensures nobody { IsNobody there.new objects.new groups.new }
+{
+    if matches!(one, Move::Open) {
+        *there = true;
+    } else if *there {
+        make_there(objects, groups, one);
+    }
+}
+
+// The move is made of an organisation that is there.
+#[tactic(auto, unfolding(crate::specs::Moves::takes_room))]
+fn make_there(objects: &mut Objects, groups: &mut Groups, one: Move)
+    requires room { cond (takes_room one) 1 0 ≤ room_for objects.old groups.old }
+    requires place { HasPlace (group_joined one) groups.old }
+    ensures state { state_from true objects.new groups.new ≡ after_move one (state_from true objects.old groups.old) }
+    ensures room { room_for objects.old groups.old ≤ room_for objects.new groups.new + cond (takes_room one) 1 0 }
 {
     match one {
-        Move::Open => *there = true,
-        Move::Put(key, object) => {
-            if *there {
-                let _ = objects.put(key, object.into_tree());
-            }
-        }
-        Move::TakeOut(key) => {
-            if *there {
-                let _ = objects.take_out(&key);
-            }
-        }
+        Move::Open => {}
+        Move::Put(key, object) => drop(objects.put(key, object.into_tree())),
+        Move::TakeOut(key) => drop(objects.take_out(&key)),
+        Move::PutList(key, list) => drop(objects.put_acl(key, list)),
+        Move::TakeList(key) => drop(objects.take_acl(&key)),
+        Move::AddUser(comer) => add_user(groups, comer),
+        Move::RemoveUser(name) => remove_user(objects, groups, &name),
+        Move::AddClient(comer) => add_client(groups, comer),
+        Move::RemoveClient(name) => remove_client(objects, groups, &name),
+        Move::PutGroup(name, members) => groups.put_group(name, members.into_group()),
+        Move::RemoveGroup(name) => remove_group(objects, groups, &name),
     }
+}
+
+fn add_user(groups: &mut Groups, comer: Comer)
+    requires room { 1 ≤ groups.old.spare }
+    requires place { HasPlace (Some comer.group) groups.old }
+    ensures membership { groups.new.membership ≡ joins comer.group MemberKind.User comer.name (with_user comer.name groups.old.membership) }
+    ensures spare { groups.old.spare ≤ groups.new.spare + 1 }
+{
+    let (name, member, group) = comer.into_parts();
+    groups.add_user(name);
+    join(groups, &group, MemberKind::User, member);
+}
+
+fn add_client(groups: &mut Groups, comer: Comer)
+    requires room { 1 ≤ groups.old.spare }
+    requires place { HasPlace (Some comer.group) groups.old }
+    ensures membership { groups.new.membership ≡ joins comer.group MemberKind.Client comer.name (with_client comer.name groups.old.membership) }
+    ensures spare { groups.old.spare ≤ groups.new.spare + 1 }
+{
+    let (name, member, group) = comer.into_parts();
+    groups.add_client(name);
+    join(groups, &group, MemberKind::Client, member);
+}
+
+// The member joins the group, where there is one.
+fn join(groups: &mut Groups, group: &Text, kind: MemberKind, member: Text)
+    requires { HasPlace (Some group.now) groups.old }
+    ensures membership { groups.new.membership ≡ joins group.now kind member groups.old.membership }
+    ensures spare { groups.new.spare ≡ groups.old.spare }
+{
+    if groups.has(MemberKind::Group, group) {
+        groups.join(group, kind, member);
+    }
+}
+
+fn remove_user(objects: &mut Objects, groups: &mut Groups, name: &Text)
+    ensures membership { groups.new.membership ≡ leaves MemberKind.User name.now (without_user name.now groups.old.membership) }
+    ensures lists { objects.new.lists ≡ lists_without_actor name.now objects.old.lists }
+    ensures objects { objects.new.objects ≡ objects.old.objects }
+    ensures room { room_for objects.old groups.old ≤ room_for objects.new groups.new }
+{
+    groups.remove_user(name);
+    groups.leave_all(MemberKind::User, name);
+    objects.take_actor(name);
+}
+
+fn remove_client(objects: &mut Objects, groups: &mut Groups, name: &Text)
+    ensures membership { groups.new.membership ≡ leaves MemberKind.Client name.now (without_client name.now groups.old.membership) }
+    ensures lists { objects.new.lists ≡ lists_without_actor name.now objects.old.lists }
+    ensures objects { objects.new.objects ≡ objects.old.objects }
+    ensures room { room_for objects.old groups.old ≤ room_for objects.new groups.new }
+{
+    groups.remove_client(name);
+    groups.leave_all(MemberKind::Client, name);
+    objects.take_actor(name);
+}
+
+fn remove_group(objects: &mut Objects, groups: &mut Groups, name: &Text)
+    ensures membership { groups.new.membership ≡ leaves MemberKind.Group name.now (with_groups (finite.remove groups.old.membership.groups name.now) groups.old.membership) }
+    ensures lists { objects.new.lists ≡ lists_without_group name.now objects.old.lists }
+    ensures objects { objects.new.objects ≡ objects.old.objects }
+    ensures room { room_for objects.old groups.old ≤ room_for objects.new groups.new }
+{
+    groups.remove_group(name);
+    groups.leave_all(MemberKind::Group, name);
+    objects.take_group(name);
 }

@@ -3,8 +3,8 @@
 ghost use Rattle.std.specs.Prelude.{◌≡◌, IfOk, false};
 ghost use Rattle.org_core.specs.Refusals as spec;
 
-use crate::needs::Permission;
 use crate::replies::{Reply, with_key};
+use access_lists::Perm;
 use doc_tree::{Bytes, NoMemory, Text, Tree, Trees};
 use http::StatusCode;
 use std::alloc::Global;
@@ -33,7 +33,7 @@ pub enum Refusal {
     /// 400: this field of the body hasn't its form.
     BadField(Text),
     /// 403: the caller lacks this permission, the first of those that are needed.
-    Forbidden(Permission),
+    Forbidden(Perm),
     /// 409: what the request would create is there.
     AlreadyExists,
 }
@@ -111,17 +111,17 @@ pub fn out_of_memory() -> Reply
 }
 
 #[tactic(auto, unfolding(json::specs::Print::escape_byte))]
-fn forbidden(permission: Permission) -> Reply
+fn forbidden(permission: Perm) -> Reply
     ensures { result ≡ spec.reply_to (Refusal.Forbidden permission) }
 {
     refused(
         StatusCode::FORBIDDEN,
         match permission {
-            Permission::Create => b"{\"error\":[\"missing create permission\"]}",
-            Permission::Read => b"{\"error\":[\"missing read permission\"]}",
-            Permission::Update => b"{\"error\":[\"missing update permission\"]}",
-            Permission::Delete => b"{\"error\":[\"missing delete permission\"]}",
-            Permission::Grant => b"{\"error\":[\"missing grant permission\"]}",
+            Perm::Create => b"{\"error\":[\"missing create permission\"]}",
+            Perm::Read => b"{\"error\":[\"missing read permission\"]}",
+            Perm::Update => b"{\"error\":[\"missing update permission\"]}",
+            Perm::Delete => b"{\"error\":[\"missing delete permission\"]}",
+            Perm::Grant => b"{\"error\":[\"missing grant permission\"]}",
         },
     )
 }

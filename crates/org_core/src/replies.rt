@@ -9,6 +9,9 @@ use doc_tree::{Bytes, Fields, NoMemory, Text, Tree, json_text};
 use http::StatusCode;
 use std::alloc::Global;
 
+/// The front of the paths of organisations.
+pub const ORGANISATIONS: &str = "/organizations/";
+
 /// A reply: its status (RFC 9110, section 15), whether its body is raw bytes and not JSON, and its
 /// body.
 #[derive(Drop)]
@@ -87,4 +90,11 @@ fn with_body(alloc: Global, status: StatusCode, tree: &Tree) -> Result<Reply, No
         octets: false,
         body: json_text(alloc, tree)?,
     })
+}
+
+/// The path of an organisation.
+pub fn org_uri(alloc: Global, org: &Text) -> Result<Text, NoMemory>
+    ensures { IfOk result (λ uri. uri ≡ spec.org_uri org.now) }
+{
+    joined(alloc, ORGANISATIONS, org.as_str())
 }

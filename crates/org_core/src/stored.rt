@@ -1,7 +1,8 @@
 //! An object as it is stored.
 
-ghost use Rattle.std.specs.Prelude.{◌≡◌};
+ghost use Rattle.std.specs.Prelude.{◌≡◌, option_map};
 ghost use Rattle.doc_tree.specs.Tree.{doc_of};
+ghost use Rattle.org_core.specs.Named as spec;
 
 use doc_tree::Tree;
 use std::marker::Model;
@@ -45,5 +46,24 @@ impl Stored {
     {
         let Stored { tree } = self;
         tree
+    }
+}
+
+/// The name that an object has as its field of this key.
+pub fn named_by<'a>(field: &str, object: &'a Tree) -> &'a str
+    ensures { result.now ≡ spec.named_by field.now (doc_of object.now) }
+{
+    match object {
+        Tree::Dict(fields) => text_of(fields.get(field)),
+        Tree::Null | Tree::Bool(_) | Tree::Whole(_) | Tree::Words(_) | Tree::List(_) => "",
+    }
+}
+
+fn text_of(tree: Option<&Tree>) -> &str
+    ensures { result.now ≡ spec.text_of (option_map (λ t. doc_of t.now) tree.entry) }
+{
+    match tree {
+        Some(Tree::Words(text)) => text.as_str(),
+        _ => "",
     }
 }

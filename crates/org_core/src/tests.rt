@@ -4,13 +4,15 @@ ghost use Rattle.std.specs.Prelude.{◌≡◌, None, false};
 ghost use Rattle.org_core.specs.States.{state_in, IsNobody};
 
 use crate::bodies::document_in;
+use crate::comers::Comer;
+use crate::group_members::GroupMembers;
 use crate::moves::{Move, Moves, puts_in};
-use crate::needs::Permission;
-use crate::org_state::{OrgState, make_all};
+use crate::org_state::{OrgState, make_all, make_place_first};
 use crate::refusals::{Refusal, out_of_memory};
 use crate::replies::Reply;
 use crate::requests::{BadBody, Body};
 use crate::stored::Stored;
+use access_lists::{Group as AGroup, Groups, MemberKind, Perm};
 use doc_tree::{Kind, NoMemory, Text, Tree};
 use object_store::{Key, Objects};
 use std::alloc::Global;
@@ -40,7 +42,7 @@ fn refusal(alloc: Global, position: u8) -> Result<Refusal, NoMemory> {
         4 => Refusal::UnknownCaller,
         5 => Refusal::BadField(Text::from_str(alloc, "name")?),
         6 => Refusal::NotFound,
-        7 => Refusal::Forbidden(Permission::Delete),
+        7 => Refusal::Forbidden(Perm::Delete),
         _ => Refusal::AlreadyExists,
     })
 }
@@ -98,36 +100,56 @@ fn forget(alloc: Global, state: &mut OrgState) -> Result<(), NoMemory>
 {
     let mut moves = Moves::new(alloc);
     moves.push(Move::TakeOut(web1(alloc)?))?;
-    state.reserve(puts_in(&moves))?;
+    state.reserve(&moves)?;
     state.make_all(moves);
     Ok(())
 }
 
+fn add_copy(alloc: Global, text: &mut String, state: &OrgState) -> Result<(), NoMemory> {
+    let copy = state.copy(alloc)?;
+    add_state(alloc, text, &copy)
+}
+
+/// What is told of a state before and after a move, and of its copy.
+fn add_all(alloc: Global, text: &mut String, state: &mut OrgState) -> Result<(), NoMemory>
+    requires { state_in state.old ≡ None }
+{
+    add_state(alloc, text, state)?;
+    forget(alloc, state)?;
+    state.meets_conditions();
+    add_copy(alloc, text, state)
+}
+
+/// What is large has one way out.
+fn add_nobody(alloc: Global, hasher: RandomState, text: &mut String) -> Result<(), NoMemory> {
+    let acme = Text::from_str(alloc, "acme")?;
+    let mut state = OrgState::none(alloc, hasher, acme);
+    add_all(alloc, text, &mut state)
+}
+
 #[test]
 fn a_state_is_told_changed_and_copied(rt: HostRuntime) -> Result<(), Fail> {
-    let alloc = rt.alloc();
     let hasher = RandomState::new(&rt)?;
-    let mut state = OrgState::none(alloc, hasher, Text::from_str(alloc, "acme")?);
-    let mut text = String::new(alloc);
-    add_state(alloc, &mut text, &state)?;
-    forget(alloc, &mut state)?;
-    state.meets_conditions();
-    add_state(alloc, &mut text, &state.copy(alloc)?)?;
+    let mut text = String::new(rt.alloc());
+    add_nobody(rt.alloc(), hasher, &mut text)?;
     assert_eq!(rt; text.as_str(), "false false 0\nfalse false 0\n");
     assert!(rt; document_in(&Body::Bad(BadBody::TooDeep)).is_err());
     Ok(())
 }
 
-/// What is told between two moves, when the conditions of a state needn't hold: the same of its parts.
+/// What is told between two moves, when the conditions of a state needn't hold: the same of its parts,
+/// and whether there is a user `ann`.
 fn add_parts(
     alloc: Global,
     text: &mut String,
     there: bool,
     objects: &Objects,
+    groups: &Groups,
 ) -> Result<(), NoMemory> {
     let has = objects.has(Kind::Node, "web1");
     let count = objects.names(alloc, Kind::Node)?.len();
-    let line = format!(in alloc; "{there} {has} {count}\n")?;
+    let user = groups.has(MemberKind::User, &Text::from_str(alloc, "ann")?);
+    let line = format!(in alloc; "{there} {has} {count} {user}\n")?;
     text.push_str(line.as_str())?;
     Ok(())
 }
@@ -136,50 +158,104 @@ fn make_one(
     alloc: Global,
     there: &mut bool,
     objects: &mut Objects,
+    groups: &mut Groups,
     one: Move,
 ) -> Result<(), NoMemory>
-    requires { IsNobody there.old objects.old }
-    ensures { IsNobody there.new objects.new }
+    requires { IsNobody there.old objects.old groups.old }
+    ensures { IsNobody there.new objects.new groups.new }
 {
     let mut moves = Moves::new(alloc);
     moves.push(one)?;
-    objects.reserve(puts_in(&moves))?;
-    make_all(there, objects, moves);
+    objects.reserve(puts_in(moves.as_slice()))?;
+    groups.reserve(puts_in(moves.as_slice()))?;
+    make_place_first(groups, moves.as_slice())?;
+    make_all(there, objects, groups, moves);
     Ok(())
 }
 
-fn live(alloc: Global, objects: &mut Objects, text: &mut String) -> Result<(), NoMemory>
-    requires { IsNobody false objects.old }
+fn node(alloc: Global) -> Result<Move, NoMemory> {
+    Ok(Move::Put(web1(alloc)?, Stored::of(Tree::Null)))
+}
+
+fn no_users(alloc: Global, hasher: RandomState) -> Result<Move, NoMemory> {
+    let nobody = GroupMembers::of(AGroup::with(alloc, hasher, &[], &[], &[])?);
+    Ok(Move::PutGroup(Text::from_str(alloc, "users")?, nobody))
+}
+
+fn gone(alloc: Global) -> Result<Move, NoMemory> {
+    Ok(Move::TakeOut(web1(alloc)?))
+}
+
+fn comes(alloc: Global) -> Result<Move, NoMemory> {
+    Ok(Move::AddUser(Comer::of(alloc, "ann", "users")?))
+}
+
+fn goes(alloc: Global) -> Result<Move, NoMemory> {
+    Ok(Move::RemoveUser(Text::from_str(alloc, "ann")?))
+}
+
+fn step(
+    alloc: Global,
+    there: &mut bool,
+    objects: &mut Objects,
+    groups: &mut Groups,
+    text: &mut String,
+    one: Move,
+) -> Result<(), NoMemory>
+    requires { IsNobody there.old objects.old groups.old }
+    ensures { IsNobody there.new objects.new groups.new }
+{
+    make_one(alloc, there, objects, groups, one)?;
+    add_parts(alloc, text, *there, objects, groups)
+}
+
+fn live(
+    alloc: Global,
+    hasher: RandomState,
+    objects: &mut Objects,
+    groups: &mut Groups,
+    text: &mut String,
+) -> Result<(), NoMemory>
+    requires { IsNobody false objects.old groups.old }
 {
     let mut there = false;
-    let node = web1(alloc)?;
-    make_one(
+    step(alloc, &mut there, objects, groups, text, node(alloc)?)?;
+    step(alloc, &mut there, objects, groups, text, Move::Open)?;
+    step(alloc, &mut there, objects, groups, text, node(alloc)?)?;
+    step(alloc, &mut there, objects, groups, text, gone(alloc)?)?;
+    step(
         alloc,
         &mut there,
         objects,
-        Move::Put(node, Stored::of(Tree::Null)),
+        groups,
+        text,
+        no_users(alloc, hasher)?,
     )?;
-    add_parts(alloc, text, there, objects)?;
-    make_one(alloc, &mut there, objects, Move::Open)?;
-    let node = web1(alloc)?;
-    make_one(
-        alloc,
-        &mut there,
-        objects,
-        Move::Put(node, Stored::of(Tree::Null)),
-    )?;
-    add_parts(alloc, text, there, objects)?;
-    let node = web1(alloc)?;
-    make_one(alloc, &mut there, objects, Move::TakeOut(node))?;
-    add_parts(alloc, text, there, objects)
+    step(alloc, &mut there, objects, groups, text, comes(alloc)?)?;
+    step(alloc, &mut there, objects, groups, text, goes(alloc)?)
+}
+
+/// What is large has one way out.
+fn add_life(alloc: Global, hasher: RandomState, text: &mut String) -> Result<(), NoMemory> {
+    let mut objects = Objects::none(alloc, hasher);
+    let mut groups = Groups::none(alloc, hasher);
+    live(alloc, hasher, &mut objects, &mut groups, text)
 }
 
 #[test]
 fn an_organisation_opens_keeps_and_forgets(rt: HostRuntime) -> Result<(), Fail> {
-    let alloc = rt.alloc();
-    let mut objects = Objects::none(alloc, RandomState::new(&rt)?);
-    let mut text = String::new(alloc);
-    live(alloc, &mut objects, &mut text)?;
-    assert_eq!(rt; text.as_str(), "false false 0\ntrue true 1\ntrue false 0\n");
+    let hasher = RandomState::new(&rt)?;
+    let mut text = String::new(rt.alloc());
+    add_life(rt.alloc(), hasher, &mut text)?;
+    assert_eq!(rt;
+        text.as_str(),
+        "false false 0 false\n\
+         true false 0 false\n\
+         true true 1 false\n\
+         true false 0 false\n\
+         true false 0 false\n\
+         true false 0 true\n\
+         true false 0 false\n"
+    );
     Ok(())
 }

@@ -2,7 +2,7 @@
 use Rattle.std.proofs.Common.{ℕ, List, [], ◌∷◌, Option, None}
 use Rattle.doc_tree.specs.Doc.{dict, no_pairs}
 use Rattle.org_core.specs.declared.needs.Need.TheVariants.{Operator}
-use Rattle.org_core.specs.declared.needs.Permission.TheVariants as permission
+use Rattle.access_lists.specs.declared.perm.Perm.TheVariants as permission
 use Rattle.org_core.specs.declared.requests.Body.{Body}
 use Rattle.org_core.specs.Needs.{lacking}
 use Rattle.org_core.specs.declared.requests.Place.{Place}
@@ -18,6 +18,8 @@ use Rattle.org_core.specs.Outcomes.{shows, tells}
 use Rattle.org_core.specs.States.{State}
 use Rattle.route_table.specs.declared.verbs.Verb.{Verb}
 use Rattle.route_table.specs.declared.verbs.Verb.TheVariants.{Get, Post, Put, Delete, Other}
+use Rattle.access_routes.proofs.AccessLemmas.{access_keep}
+use Rattle.access_routes.specs.AccessRules.{access_rules}
 use Rattle.object_routes.proofs.KeepingLemmas.{organisations_keep, objects_keep, data_keep}
 use Rattle.object_routes.specs.DataBags.{data_rules}
 use Rattle.object_routes.specs.Objects.{objects_rules}
@@ -33,7 +35,7 @@ at_route_keeps : (context : Context) (route : Route) (request : Request) → Mee
 at_route_keeps context (Organisation route) request meets = answered_keeps organisation_rules organisations_keep context route request meets
 at_route_keeps context (Objects collection route) request meets = answered_keeps (objects_rules collection) (objects_keep collection) context route request meets
 at_route_keeps context (Data route) request meets = answered_keeps data_rules data_keep context route request meets
-at_route_keeps context (Access route) request meets = meets
+at_route_keeps context (Access route) request meets = answered_keeps access_rules access_keep context route request meets
 at_route_keeps context (Cookbooks route) request meets = meets
 at_route_keeps context (Policies route) request meets = meets
 at_route_keeps context (Search route) request meets = meets

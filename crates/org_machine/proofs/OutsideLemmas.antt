@@ -4,7 +4,7 @@ use Rattle.org_core.specs.declared.refusals.Refusal.{Refusal}
 use Rattle.org_core.specs.declared.replies.Reply.{Reply}
 use Rattle.doc_tree.specs.Doc.{dict, no_pairs}
 use Rattle.org_core.specs.declared.needs.Need.TheVariants.{Operator}
-use Rattle.org_core.specs.declared.needs.Permission.TheVariants as permission
+use Rattle.access_lists.specs.declared.perm.Perm.TheVariants as permission
 use Rattle.org_core.specs.declared.requests.Body.{Body}
 use Rattle.org_core.specs.Needs.{lacking}
 use Rattle.org_core.specs.declared.requests.Place.{Place}

@@ -1,14 +1,16 @@
 -- A request that was prepared as the step says, or refused for want of memory, is answered as its mark says.
-use Rattle.std.proofs.Common.{◌≡◌, ◌≤◌, ◌+◌, ◌⊎◌, ℕ, List, [], Result, Ok, Err, inl, inr, refl, sym, ap, subst, ◌∙◌, arith}
+use Rattle.std.proofs.Common.{◌≡◌, ◌+◌, ◌⊎◌, ℕ, List, [], Result, Ok, Err, inl, inr, refl, sym, ap, subst, ◌∙◌, arith}
 use Rattle.org_core.specs.declared.groups.Prepared.{Prepared}
 use Rattle.org_core.specs.declared.moves.Move.{Move}
 use Rattle.org_core.specs.declared.refusals.Refusal.{Refusal}
 use Rattle.org_core.specs.declared.refusals.Refusal.TheVariants.{TooLarge, VersionNotTaken, NotImplemented, NotFound, NotAllowed, UnknownCaller, NotJson, TooDeep, NotWhole, BadField, Forbidden, AlreadyExists}
 use Rattle.org_core.specs.declared.requests.Request.{Request}
-use Rattle.org_core.specs.Moves.{after_moves, puts_in}
+use Rattle.org_core.specs.Moves.{HasRoom, after_moves}
 use Rattle.org_core.specs.Outcomes.{Told, shows, makes, gives, Done, Decided, Finds, reply_of, outcome_of, LooksAtMost}
 use Rattle.org_core.specs.Refusals.{reply_to, out_of_memory}
-use Rattle.org_core.specs.States.{State, Kept, room_in}
+use Rattle.access_lists.specs.Rooms as groups
+use Rattle.object_store.specs.Objects.{Store}
+use Rattle.org_core.specs.States.{State, Kept}
 use Rattle.org_machine.specs.Marks.{mark_of, served, short, answer, after, IsLawful}
 use Rattle.org_machine.specs.Serving.{IsGood, ComesWith, Does, Looks}
 use Rattle.org_machine.specs.Steps.{decided, step, looks}
@@ -66,15 +68,15 @@ pub record IsPrepared (prepared : Prepared) (request : Request) (state : State) 
   pub lawful : IsLawful (mark_of prepared.reply) request state
   pub moves : after_moves prepared.moves state ≡ after (mark_of prepared.reply) request state
   pub made : ComesWith prepared.reply.status prepared.moves
-  pub room : puts_in prepared.moves ≤ room_in kept
+  pub room : HasRoom prepared.moves kept.objects kept.groups
   pub looks : Looks prepared.reply request state before now
 
 -- it took just the looks of the step, and so at most these
 exactly : (before now count : ℕ) → now ≡ before + count → LooksAtMost count before now
 exactly before now count is = (omega (arith, is), omega (arith, is))
 
-no_room_needed : (moves : List Move) (room : ℕ) → moves ≡ [] → puts_in moves ≤ room
-no_room_needed moves room none = subst (λ ms. puts_in ms ≤ room) (sym none) (omega arith)
+no_room_needed : (moves : List Move) (store : Store) (members : groups.Kept) → moves ≡ [] → HasRoom moves store members
+no_room_needed moves store members none = subst (λ ms. HasRoom ms store members) (sym none) (record { room = omega arith; orderly = refl; place = tt })
 
 short≢served : short ≡ served → ⊥
 short≢served same = cc
@@ -100,7 +102,7 @@ is_prepared prepared request state kept before now (inr p) =
       lawful = subst (λ m. IsLawful m request state) (sym mark) tt;
       moves = ap (λ ms. after_moves ms state) p.moves ∙ ap (λ m. after m request state) (sym mark);
       made = inl p.moves;
-      room = no_room_needed prepared.moves (room_in kept) p.moves;
+      room = no_room_needed prepared.moves kept.objects kept.groups p.moves;
       looks = record { exact = λ is. absurd (short≢served (sym mark ∙ is)); most = p.looked };
     }
 
@@ -112,7 +114,7 @@ found_is_due prepared (Err refusal) found = absurd found
 
 -- what was found is done with room for it, or told as want of memory
 pub found_with_room : (prepared result : Prepared) (due : Decided) (kept : Kept) (before now : ℕ)
-    → Finds (Ok prepared) due.answer → now ≡ before + due.looks → puts_in result.moves ≤ room_in kept
+    → Finds (Ok prepared) due.answer → now ≡ before + due.looks → HasRoom result.moves kept.objects kept.groups
     → (result ≡ prepared) ⊎ ((result.reply ≡ out_of_memory) × (result.moves ≡ [])) → Does result due kept before now
 found_with_room prepared result due kept before now found looked room (inl same) =
     let is = found_is_due prepared due.answer found in

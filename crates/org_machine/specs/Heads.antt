@@ -1,5 +1,5 @@
 -- What the head of a request alone refuses, before anyone looks at its body or at a state.
-use Rattle.std.specs.Prelude.{Bool, true, false, not, ◌||◌, ℕ, List, [], ◌∷◌, Option, Some, None, nat_le}
+use Rattle.std.specs.Prelude.{Bool, true, false, not, ℕ, List, [], ◌∷◌, Option, Some, None, nat_le}
 use Rattle.route_table.specs.declared.availability.Availability.{Availability}
 use Rattle.route_table.specs.declared.availability.Availability.TheVariants.{Built, Later, Lacking}
 use Rattle.org_core.specs.declared.refusals.Refusal.{Refusal}
@@ -9,7 +9,6 @@ use Rattle.org_core.specs.declared.requests.Place.TheVariants.{Of, Organisations
 use Rattle.org_core.specs.declared.requests.Request.{Request}
 use Rattle.org_core.specs.Bodies.{is_too_long}
 use Rattle.org_core.specs.Refusals.{refuses, first_some}
-use Rattle.org_core.specs.Requests.{is_operator}
 
 -- the version of the API is 0 or 1
 abbrev pub is_taken : Option ℕ → Bool
@@ -28,17 +27,13 @@ is_lacking Built = false
 is_lacking Later = false
 is_lacking Lacking = true
 
--- the path is left out, or its method is built later
-abbrev pub is_unbuilt : Place → Availability → Bool
-is_unbuilt (Of org route) availability = is_later availability
-is_unbuilt Organisations availability = is_later availability
-is_unbuilt LeftOut availability = true
-is_unbuilt NoRoute availability = false
-is_unbuilt NoMemory availability = false
-
--- what is asked isn't built: by another caller than the operator, of a path that is left out, or in a row to come
-abbrev pub is_not_built : Request → Bool
-is_not_built request = not (is_operator request.caller) || is_unbuilt request.place request.availability
+-- what is asked isn't built: the path is left out, or its method is built later
+abbrev pub is_not_built : Place → Availability → Bool
+is_not_built (Of org route) availability = is_later availability
+is_not_built Organisations availability = is_later availability
+is_not_built LeftOut availability = true
+is_not_built NoRoute availability = false
+is_not_built NoMemory availability = false
 
 -- no route has the path
 abbrev pub is_no_route : Place → Bool
@@ -61,7 +56,7 @@ abbrev pub head_refusals : Request → List (Option Refusal)
 head_refusals request =
     refuses TooLarge (is_too_long request.body)
     ∷ refuses VersionNotTaken (not (is_taken request.api))
-    ∷ refuses NotImplemented (is_not_built request)
+    ∷ refuses NotImplemented (is_not_built request.place request.availability)
     ∷ refuses NotFound (is_no_route request.place)
     ∷ refuses NotAllowed (lacks_method request.place request.availability)
     ∷ []

@@ -4,3 +4,4 @@ pub mod Steps
 pub mod Marks
 pub mod Alone
 pub mod Serving
+pub mod Permitting

@@ -1,14 +1,14 @@
 -- What serving one request does: to what is kept of its organisation, and to the states of all.
-use Rattle.std.specs.Prelude.{◌≡◌, ◌≤◌, ◌+◌, ◌⊎◌, if◌then◌else◌, ℕ, List, [], Option, Some, None}
+use Rattle.std.specs.Prelude.{◌≡◌, ◌+◌, ◌⊎◌, if◌then◌else◌, ℕ, List, [], Option, Some, None}
 use Rattle.org_core.specs.declared.groups.Prepared.{Prepared}
 use Rattle.org_core.specs.declared.moves.Move.{Move}
 use Rattle.org_core.specs.declared.replies.Reply.{Reply}
 use Rattle.org_core.specs.declared.requests.Request.{Request}
 use Rattle.org_core.specs.Requests.{org_of, is_of}
-use Rattle.org_core.specs.Moves.{puts_in}
+use Rattle.org_core.specs.Moves.{HasRoom}
 use Rattle.org_core.specs.Outcomes.{Decided, outcome_of, LooksAtMost}
 use Rattle.org_core.specs.Refusals.{out_of_memory}
-use Rattle.org_core.specs.States.{State, Kept, room_in}
+use Rattle.org_core.specs.States.{State, Kept}
 use Rattle.org_machine.specs.Steps.{looks}
 use Rattle.org_machine.specs.Marks.{mark_of, served, answer, after, IsLawful}
 use Rattle.org_machine.specs.Alone.{Exchange, Alone, States, OutsideAnswer, states_after}
@@ -29,7 +29,7 @@ IsOrShort reply due = (reply ≡ due) ⊎ (reply ≡ out_of_memory)
 pub record IsDue (prepared : Prepared) (due : Decided) (kept : Kept) (before now : ℕ) : Type 0 where
   pub reply : prepared.reply ≡ (outcome_of due.answer).reply
   pub moves : prepared.moves ≡ (outcome_of due.answer).moves
-  pub room : puts_in prepared.moves ≤ room_in kept
+  pub room : HasRoom prepared.moves kept.objects kept.groups
   pub looked : now ≡ before + due.looks
 
 -- what was prepared tells of want of memory and makes no move, after some of the looks

@@ -5,7 +5,7 @@ use Rattle.doc_tree.specs.Doc.{Doc, dict, no_pairs}
 use Rattle.route_table.specs.declared.verbs.Verb.{Verb}
 use Rattle.route_table.specs.declared.verbs.Verb.TheVariants.{Get, Post, Put, Delete, Other}
 use Rattle.org_core.specs.declared.needs.Need.TheVariants.{Operator}
-use Rattle.org_core.specs.declared.needs.Permission.TheVariants as permission
+use Rattle.access_lists.specs.declared.perm.Perm.TheVariants as permission
 use Rattle.org_core.specs.declared.refusals.Refusal.{Refusal}
 use Rattle.org_core.specs.declared.refusals.Refusal.TheVariants.{NotImplemented, NotFound, NotAllowed, BadField}
 use Rattle.org_core.specs.declared.requests.Body.{Body}
@@ -21,6 +21,7 @@ use Rattle.org_core.specs.Contexts.{Context}
 use Rattle.org_core.specs.Needs.{lacking}
 use Rattle.org_core.specs.Outcomes.{Decided, Outcome, shows, tells, refuse, unless, outcome_of}
 use Rattle.org_core.specs.States.{State}
+use Rattle.access_routes.specs.AccessRules.{access_rules}
 use Rattle.object_routes.specs.DataBags.{data_rules}
 use Rattle.object_routes.specs.Objects.{objects_rules}
 use Rattle.object_routes.specs.Organisations.{organisation_rules}
@@ -32,7 +33,7 @@ abbrev pub at_route : Context → Route → Request → Decided
 at_route context (Organisation route) request = answered_by organisation_rules context route request
 at_route context (Objects collection route) request = answered_by (objects_rules collection) context route request
 at_route context (Data route) request = answered_by data_rules context route request
-at_route context (Access route) request = refuse NotImplemented
+at_route context (Access route) request = answered_by access_rules context route request
 at_route context (Cookbooks route) request = refuse NotImplemented
 at_route context (Policies route) request = refuse NotImplemented
 at_route context (Search route) request = refuse NotImplemented

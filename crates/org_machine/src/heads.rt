@@ -3,7 +3,7 @@
 ghost use Rattle.std.specs.Prelude.{◌≡◌};
 ghost use Rattle.org_machine.specs.Heads as spec;
 
-use org_core::{Place, Refusal, Request, is_operator};
+use org_core::{Place, Refusal, Request};
 use route_table::Availability;
 
 /// The first refusal of a request that its head alone gives, and a body that is too long: 413, 406, 501,
@@ -18,7 +18,7 @@ pub fn head_refusal(request: &Request) -> Option<Refusal>
     if !is_taken(request.api) {
         return Some(Refusal::VersionNotTaken);
     }
-    if is_not_built(request) {
+    if is_not_built(&request.place, request.availability) {
         return Some(Refusal::NotImplemented);
     }
     if is_no_route(&request.place) {
@@ -40,15 +40,9 @@ fn is_taken(api: Option<u8>) -> bool
     }
 }
 
-/// Whether what is asked isn't built: by another caller than the operator, left out, or to come.
-fn is_not_built(request: &Request) -> bool
-    ensures { result ≡ spec.is_not_built request.now }
-{
-    !is_operator(&request.caller) || is_unbuilt(&request.place, request.availability)
-}
-
-fn is_unbuilt(place: &Place, availability: Availability) -> bool
-    ensures { result ≡ spec.is_unbuilt place.now availability }
+/// Whether what is asked isn't built: left out, or to come.
+fn is_not_built(place: &Place, availability: Availability) -> bool
+    ensures { result ≡ spec.is_not_built place.now availability }
 {
     match place {
         Place::Of { org: _, route: _ } | Place::Organisations => {

@@ -1,13 +1,14 @@
 //! Laws of the definitions, which need no code.
 
-ghost use Rattle.std.specs.Prelude.{◌≡◌, ℕ, List, [], None, map};
+ghost use Rattle.std.specs.Prelude.{◌≡◌, ◌↔◌, ℕ, List, [], None, map};
 ghost use Rattle.org_core.specs.declared.requests.Request.{Request};
-ghost use Rattle.org_machine.specs.Alone.{Alone, Exchange, States, asked_in, own};
+ghost use Rattle.org_machine.specs.Alone.{Alone, Exchange, RunsAlone, States, asked_in, own};
 ghost use Rattle.org_machine.specs.Marks.{mark_of, served};
 ghost use Rattle.org_core.specs.Conditions.{MeetsConditions};
 ghost use Rattle.org_core.specs.Moves.{after_moves};
 ghost use Rattle.org_core.specs.Requests.{org_of};
 ghost use Rattle.org_core.specs.States.{State};
+ghost use Rattle.org_machine.specs.Permitting.{ArePermittedExactly, IsForbidden};
 ghost use Rattle.org_machine.specs.Serving.{IsGood};
 ghost use Rattle.org_machine.specs.Steps.{step};
 
@@ -47,4 +48,17 @@ pub fn the_same_in_every_state()
 /// meets them. One that isn't there meets them.
 pub fn steps_keep_conditions()
     ensures { (request : Request) (state : State) → MeetsConditions state → MeetsConditions (after_moves (step request state).moves state) }
+{}
+
+/// A step is answered 403 exactly where nothing before refuses its request and one of the permissions that
+/// it needs isn't permitted to its caller.
+#[tactic(auto, using(crate::proofs::PermittingLemmas::step_403))]
+pub fn steps_permit_exactly()
+    ensures { (request : Request) (state : State) → ((step request state).reply.status ≡ 403) ↔ IsForbidden request state }
+{}
+
+/// What the small machine answers is permitted exactly, request by request.
+#[tactic(auto, using(crate::proofs::PermittingLemmas::all_permitted))]
+pub fn alone_is_permitted_exactly()
+    ensures { (opened : State) (es : List Exchange) → RunsAlone opened es → ArePermittedExactly opened es }
 {}

@@ -13,8 +13,8 @@ mod tests;
 
 pub use heads::head_refusal;
 pub use laws::{
-    refusals_change_nothing, steps_are_served, steps_keep_conditions, the_same_in_every_state,
-    two_worlds,
+    alone_is_permitted_exactly, refusals_change_nothing, steps_are_served, steps_keep_conditions,
+    steps_permit_exactly, the_same_in_every_state, two_worlds,
 };
 pub use org_core::{
     AccessRoute, BadBody, Body, Collection, CookbookRoute, DataRoute, Move, Moves, ObjectsRoute,

@@ -7,7 +7,10 @@ ghost use Rattle.org_core.specs.Outcomes.{Finds, Looked};
 ghost use Rattle.org_machine.specs.Order as spec;
 
 use doc_tree::{NoMemory, Steps};
-use org_core::{Context, Finder, Group, Lent, Need, Prepared, Refusal, Request, Stop, is_operator};
+use org_core::{
+    Context, Finder, Group, Lent, Prepared, Refusal, Request, Stop, first_lacking, is_known,
+    is_operator,
+};
 use std::alloc::Global;
 use std::sync::ledger::Ledger;
 
@@ -23,13 +26,6 @@ pub(crate) fn absence_refusal(asks_for_it: bool, context: Context<'_>) -> Option
         return Some(Refusal::UnknownCaller);
     }
     None
-}
-
-/// Whether the caller is known: the operator is.
-fn is_known(context: Context<'_>) -> bool
-    ensures { result ≡ permissions.is_known (seen context.entry) }
-{
-    is_operator(context.caller)
 }
 
 /// Decides a request at a route of a group.
@@ -100,16 +96,6 @@ fn lacking<G: Group, F: Finder>(
     }
     let needs = group.needs(alloc, context, lent, operation)?;
     Ok(first_lacking(context, needs.as_slice()))
-}
-
-// The first of these needs that isn't granted. No access list is kept yet, so none grants anything.
-pub(crate) fn first_lacking(_context: Context<'_>, needs: &[Need]) -> Option<Refusal>
-    ensures { result ≡ permissions.first_lacking (seen _context.entry) needs.now }
-{
-    match needs {
-        [] => None,
-        [need, ..] => Some(Refusal::Forbidden(need.permission())),
-    }
 }
 
 // The caller may do it: what the group itself refuses.

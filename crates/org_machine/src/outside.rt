@@ -14,9 +14,9 @@ use crate::heads::head_refusal;
 use crate::serving::told;
 use crate::steps::unnamed;
 use doc_tree::{NoMemory, Text};
-use object_routes::ORGANISATIONS;
 use org_core::{
-    Body, Permission, Place, Refusal, Reply, Request, is_operator, out_of_memory, shown_paths,
+    Body, ORGANISATIONS, Perm, Place, Refusal, Reply, Request, is_operator, out_of_memory,
+    shown_paths,
 };
 use route_table::Verb;
 use std::alloc::Global;
@@ -88,7 +88,7 @@ fn at_organisations(alloc: Global, request: &Request) -> Reply
     ensures { IsOrShort result (outcome_of (at_organisations request.now.caller request.now.verb request.now.body).answer).reply }
 {
     match request.verb {
-        Verb::Get => told(alloc, Refusal::Forbidden(Permission::Read)),
+        Verb::Get => told(alloc, Refusal::Forbidden(Perm::Read)),
         Verb::Post => match unnamed(alloc, &request.body) {
             Ok(refusal) => told(alloc, refusal),
             Err(NoMemory) => out_of_memory(),

@@ -1,14 +1,15 @@
 //! Serving one request on one organisation: `prepare` finds the reply and takes all the memory that
 //! the moves need, and `settle` makes the moves, which can't fail.
 
-ghost use Rattle.std.specs.Prelude.{◌≡◌, ◌⊎◌, ◌≤◌, [], Some};
+ghost use Rattle.std.specs.Prelude.{◌≡◌, ◌⊎◌, [], Some};
 ghost use Rattle.org_core.specs.Conditions.{MeetsConditions};
-ghost use Rattle.org_core.specs.Moves.{after_moves, puts_in};
-ghost use Rattle.org_core.specs.Outcomes.{Finds, Looked, does_by};
+ghost use Rattle.org_core.specs.Moves.{HasRoom, IsOrderly, after_moves};
+ghost use Rattle.org_core.specs.Outcomes.{Finds, Looked};
 ghost use Rattle.org_core.specs.Refusals as refusals;
 ghost use Rattle.org_core.specs.Requests.{org_of};
-ghost use Rattle.org_core.specs.States.{room_in, state_in};
+ghost use Rattle.org_core.specs.States.{state_in};
 ghost use Rattle.org_machine.specs.Marks.{mark_of, answer, after, IsLawful};
+ghost use Rattle.org_machine.specs.Permitting.{IsPermittedExactly};
 ghost use Rattle.org_machine.specs.Serving.{ComesWith, Does, IsGood, IsOrShort, Looks};
 ghost use Rattle.org_machine.specs.Steps as spec;
 
@@ -17,7 +18,7 @@ use crate::steps::within;
 use doc_tree::{NoMemory, Steps};
 use org_core::{
     Context, Lent, Moves, NoFinder, OrgState, Place, Prepared, Refusal, Reply, Request, Stop,
-    out_of_memory, puts_in,
+    out_of_memory,
 };
 use std::alloc::Global;
 use std::sync::ledger::Ledger;
@@ -38,7 +39,7 @@ pub fn prepare<L: Ledger>(
     ensures lawful { IsLawful (mark_of result.reply) request.now (state_in state.old) }
     ensures moves { after_moves result.moves (state_in state.old) ≡ after (mark_of result.reply) request.now (state_in state.old) }
     ensures made { ComesWith result.reply.status result.moves }
-    ensures room { puts_in result.moves ≤ room_in state.new }
+    ensures room { HasRoom result.moves state.new.objects state.new.groups }
     // The moves lead to a state that meets the conditions of every organisation's objects.
     ensures conditions { MeetsConditions (after_moves result.moves (state_in state.new)) }
     ensures looks { Looks result.reply request.now (state_in state.old) steps.old steps.new }
@@ -107,12 +108,13 @@ fn decided_within<L: Ledger>(
 
 // Makes room for all the moves, or tells of want of memory.
 fn with_room(alloc: Global, state: &mut OrgState, prepared: Prepared) -> Prepared
+    requires { IsOrderly prepared.moves }
     ensures name { state.new.name ≡ state.old.name }
     ensures same { state_in state.new ≡ state_in state.old }
-    ensures room { puts_in result.moves ≤ room_in state.new }
+    ensures room { HasRoom result.moves state.new.objects state.new.groups }
     ensures done { (result ≡ prepared) ⊎ ((result.reply ≡ refusals.out_of_memory) × (result.moves ≡ [])) }
 {
-    match state.reserve(puts_in(&prepared.moves)) {
+    match state.reserve(&prepared.moves) {
         Ok(()) => prepared,
         Err(NoMemory) => stays(alloc, out_of_memory()),
     }
@@ -142,7 +144,7 @@ pub(crate) fn told(alloc: Global, refusal: Refusal) -> Reply
 /// Makes the moves of a request that was prepared for this state, and hands on its reply. It takes
 /// no memory and can't fail.
 pub fn settle(state: &mut OrgState, prepared: Prepared) -> Reply
-    requires room { puts_in prepared.moves ≤ room_in state.old }
+    requires room { HasRoom prepared.moves state.old.objects state.old.groups }
     requires conditions { MeetsConditions (after_moves prepared.moves (state_in state.old)) }
     ensures reply { result ≡ prepared.reply }
     ensures name { state.new.name ≡ state.old.name }
@@ -167,6 +169,8 @@ pub fn serve<L: Ledger>(
     ensures lawful { IsLawful (mark_of result) request.now (state_in state.old) }
     ensures state { state_in state.new ≡ after (mark_of result) request.now (state_in state.old) }
     ensures stays { ¬ (IsGood result.status) → state_in state.new ≡ state_in state.old }
+    // 403 exactly where nothing before refuses, and a permission that is needed isn't permitted.
+    ensures permitted { IsPermittedExactly request.now result (state_in state.old) }
     ensures looks { Looks result request.now (state_in state.old) steps.old steps.new }
 {
     let prepared = prepare(alloc, state, request, steps);

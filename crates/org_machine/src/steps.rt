@@ -8,6 +8,7 @@ ghost use Rattle.org_core.specs.Outcomes.{Finds, Looked};
 ghost use Rattle.org_machine.specs.Steps as spec;
 
 use crate::order::{absence_refusal, answered_by};
+use access_routes::Access;
 use doc_tree::{NoMemory, Steps, Text};
 use object_routes::{DataBags, Organisations, PlainObjects};
 use org_core::{
@@ -65,7 +66,8 @@ fn at_route<F: Finder, L: Ledger>(
             answered_by(alloc, &group, context, lent, route, request, steps)
         }
         Route::Data(route) => answered_by(alloc, &DataBags, context, lent, route, request, steps),
-        Route::Access(_) | Route::Cookbooks(_) | Route::Policies(_) | Route::Search(_) => {
+        Route::Access(route) => answered_by(alloc, &Access, context, lent, route, request, steps),
+        Route::Cookbooks(_) | Route::Policies(_) | Route::Search(_) => {
             Err(Stop::Refused(Refusal::NotImplemented))
         }
     }

@@ -89,26 +89,41 @@ fn replied<L: Ledger>(
     shown(alloc, serve(alloc, state, &request, steps))
 }
 
-/// The replies to requests on `acme`, one after another.
+/// Adds the replies to requests on `acme`, one after another.
+fn reply_all<L: Ledger>(
+    alloc: Global,
+    state: &mut OrgState,
+    steps: &mut Steps<L>,
+    asked: &[(Verb, &str, &str)],
+    told: &mut String,
+) -> Result<(), Fail>
+    requires { state.old.name ≡ codes "acme" }
+    ensures { state.new.name ≡ codes "acme" }
+{
+    for (verb, words, body) in asked {
+        let reply = replied(alloc, state, steps, *verb, words, body)?;
+        told.push_str(reply.as_str())?;
+        told.push_str("\n")?;
+    }
+    Ok(())
+}
+
+/// The replies to requests on `acme`, from no organisation on. What is large has one way out.
 fn replies<L: Ledger>(
     alloc: Global,
     hasher: RandomState,
     asked: &[(Verb, &str, &str)],
     blank: Blank,
-) -> Result<String, Fail>
+    told: &mut String,
+) -> Result<(), Fail>
     requires name { blank.name ≡ L.name }
     requires parts { blank.parts ≡ L.parts }
     requires some { 0 < L.parts }
 {
+    let acme = Text::from_str(alloc, "acme")?;
     let mut steps: Steps<L> = Steps::begin(blank);
-    let mut state = OrgState::none(alloc, hasher, Text::from_str(alloc, "acme")?);
-    let mut told = String::new(alloc);
-    for (verb, words, body) in asked {
-        let reply = replied(alloc, &mut state, &mut steps, *verb, words, body)?;
-        told.push_str(reply.as_str())?;
-        told.push_str("\n")?;
-    }
-    Ok(told)
+    let mut state = OrgState::none(alloc, hasher, acme);
+    reply_all(alloc, &mut state, &mut steps, asked, told)
 }
 
 #[test]
@@ -133,7 +148,8 @@ fn a_node_and_a_bag_live_and_go(rt: HostRuntime) -> Result<(), Fail> {
         (Verb::Get, "item", ""),
     ];
     let hasher = RandomState::new(&rt)?;
-    let told = replies::<Brand>(rt.alloc(), hasher, &asked, Blank::new(1))?;
+    let mut told = String::new(rt.alloc());
+    replies::<Brand>(rt.alloc(), hasher, &asked, Blank::new(1), &mut told)?;
     assert_eq!(rt;
         told.as_str(),
         "404 {\"error\":[\"not found\"]}\n\
@@ -157,28 +173,44 @@ fn a_node_and_a_bag_live_and_go(rt: HostRuntime) -> Result<(), Fail> {
     Ok(())
 }
 
-/// What `prepare` tells and leaves, and what `settle` makes of it.
-fn prepared<L: Ledger>(alloc: Global, hasher: RandomState, blank: Blank) -> Result<String, Fail>
+/// What `prepare` tells and leaves, and what `settle` makes of it: how many moves there are, whether the
+/// organisation is there before, the status, and whether it is there after.
+fn made<L: Ledger>(
+    alloc: Global,
+    state: &mut OrgState,
+    steps: &mut Steps<L>,
+    create: &Request,
+) -> (usize, bool, u16, bool)
+    requires { org_of create.now ≡ Some state.old.name }
+{
+    let prepared = prepare(alloc, state, create, steps);
+    let moves = prepared.moves.len();
+    let before = state.is_there();
+    let status = settle(state, prepared).status;
+    (moves, before, status, state.is_there())
+}
+
+fn prepared<L: Ledger>(
+    alloc: Global,
+    hasher: RandomState,
+    blank: Blank,
+) -> Result<(usize, bool, u16, bool), Fail>
     requires name { blank.name ≡ L.name }
     requires parts { blank.parts ≡ L.parts }
     requires some { 0 < L.parts }
 {
-    let mut steps: Steps<L> = Steps::begin(blank);
-    let mut state = OrgState::none(alloc, hasher, Text::from_str(alloc, "acme")?);
     let create = on_acme(alloc, Verb::Post, "create", "")?;
-    let prepared = prepare(alloc, &mut state, &create, &mut steps);
-    let moves = prepared.moves.len();
-    let before = state.is_there();
-    let status = settle(&mut state, prepared).status;
-    let after = state.is_there();
-    Ok(format!(in alloc; "{moves} moves, {before}, {status}, {after}")?)
+    let acme = Text::from_str(alloc, "acme")?;
+    let mut steps: Steps<L> = Steps::begin(blank);
+    let mut state = OrgState::none(alloc, hasher, acme);
+    Ok(made(alloc, &mut state, &mut steps, &create))
 }
 
 #[test]
 fn what_is_prepared_changes_nothing_until_it_is_settled(rt: HostRuntime) -> Result<(), Fail> {
     let hasher = RandomState::new(&rt)?;
     let told = prepared::<Brand>(rt.alloc(), hasher, Blank::new(1))?;
-    assert_eq!(rt; told.as_str(), "2 moves, false, 201, true");
+    assert_eq!(rt; told, (23, false, 201, true));
     Ok(())
 }
 

@@ -63,12 +63,12 @@ collections =
 -- the access list of an object of this collection
 abbrev pub access_list : List ℕ → Route
 access_list collection =
-    route (within (fixed collection ∷ any ∷ fixed (codes "_acl") ∷ [])) AccessList (get later ∷ [])
+    route (within (fixed collection ∷ any ∷ fixed (codes "_acl") ∷ [])) AccessList (get built ∷ [])
 
 -- one permission in the access list of an object of this collection
 abbrev pub access_entry : List ℕ → Route
 access_entry collection =
-    route (within (fixed collection ∷ any ∷ fixed (codes "_acl") ∷ any ∷ [])) AccessEntry (put later ∷ [])
+    route (within (fixed collection ∷ any ∷ fixed (codes "_acl") ∷ any ∷ [])) AccessEntry (put built ∷ [])
 
 -- access lists
 abbrev pub access_lists : List Route
@@ -88,21 +88,21 @@ objects =
     ∷ route (within (fixed (codes "roles") ∷ [])) Roles (get built ∷ post built ∷ [])
     ∷ route (within (fixed (codes "environments") ∷ [])) Environments (get built ∷ post built ∷ [])
     ∷ route (within (fixed (codes "clients") ∷ [])) Clients (get built ∷ post built ∷ [])
-    ∷ route (within (fixed (codes "groups") ∷ [])) Groups (get later ∷ post later ∷ [])
+    ∷ route (within (fixed (codes "groups") ∷ [])) Groups (get built ∷ post built ∷ [])
     ∷ route (within (fixed (codes "nodes") ∷ any ∷ [])) Node (get built ∷ put built ∷ delete built ∷ [])
     ∷ route (within (fixed (codes "roles") ∷ any ∷ [])) Role (get built ∷ put built ∷ delete built ∷ [])
     ∷ route (within (fixed (codes "environments") ∷ any ∷ [])) Environment (get built ∷ put built ∷ delete built ∷ [])
     ∷ route (within (fixed (codes "clients") ∷ any ∷ [])) Client (get built ∷ put built ∷ delete built ∷ [])
-    ∷ route (within (fixed (codes "groups") ∷ any ∷ [])) Group (get later ∷ put later ∷ delete later ∷ [])
+    ∷ route (within (fixed (codes "groups") ∷ any ∷ [])) Group (get built ∷ put built ∷ delete built ∷ [])
     ∷ []
 
 -- the users of an organisation, and its containers
 abbrev pub members : List Route
 members =
-    route (within (fixed (codes "users") ∷ [])) Users (get later ∷ post later ∷ [])
-    ∷ route (within (fixed (codes "users") ∷ any ∷ [])) User (get later ∷ delete later ∷ [])
-    ∷ route (within (fixed (codes "containers") ∷ [])) Containers (get later ∷ [])
-    ∷ route (within (fixed (codes "containers") ∷ any ∷ [])) Container (get later ∷ [])
+    route (within (fixed (codes "users") ∷ [])) Users (get built ∷ post built ∷ [])
+    ∷ route (within (fixed (codes "users") ∷ any ∷ [])) User (get built ∷ delete built ∷ [])
+    ∷ route (within (fixed (codes "containers") ∷ [])) Containers (get built ∷ [])
+    ∷ route (within (fixed (codes "containers") ∷ any ∷ [])) Container (get built ∷ [])
     ∷ []
 
 -- data bags and their items

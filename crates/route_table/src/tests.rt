@@ -46,9 +46,9 @@ const METHODS: &str = "/organizations => GET built, POST built
 /organizations/acme => GET built
 /organizations/acme/nodes => GET built, POST built
 /organizations/acme/nodes/web => GET built, PUT built, DELETE built
-/organizations/acme/groups/admins => GET later, PUT later, DELETE later
-/organizations/acme/data/b/_acl => GET later
-/organizations/acme/policies/p/_acl/read => PUT later
+/organizations/acme/groups/admins => GET built, PUT built, DELETE built
+/organizations/acme/data/b/_acl => GET built
+/organizations/acme/policies/p/_acl/read => PUT built
 /organizations/acme/files/1 => GET later, PUT later
 /organizations/acme/search/node => GET later, POST later
 /organizations/acme/nowhere => none

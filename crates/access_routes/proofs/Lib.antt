@@ -1,0 +1,3 @@
+pub mod AccessLemmas
+pub mod PlainLemmas
+pub mod ContainersLemmas

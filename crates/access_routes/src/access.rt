@@ -1,0 +1,216 @@
+//! The group of the routes of groups, users, containers and access lists.
+
+ghost use Rattle.std.specs.Prelude.{◌≡◌, IfOk};
+ghost use Rattle.access_lists.specs.Starting.{is_starting_group};
+ghost use Rattle.org_core.specs.Refusals.{refuses};
+ghost use Rattle.access_routes.specs.AccessRules as spec;
+
+use crate::operations::AccessOperation;
+use crate::{containers, groups, lists, users};
+use access_lists::{MemberKind, Perm, is_starting_group};
+use doc_tree::{Kind, NoMemory, Steps, Text};
+use org_core::{
+    AccessRoute, Context, Finder, Group, Lent, Need, Needs, Prepared, Refusal, Request, Stop,
+    listed_need,
+};
+use route_table::Verb;
+use std::alloc::Global;
+use std::sync::ledger::Ledger;
+
+/// The group of the routes of groups, users, containers and access lists.
+#[derive(Clone, Copy, Debug)]
+pub struct Access;
+
+impl Group for Access {
+    ghost use Rattle.access_routes.specs.AccessRules.{access_rules};
+
+    type Route = AccessRoute;
+
+    type Operation = AccessOperation;
+
+    ghost rules = { λ _. access_rules };
+
+    fn operation<F: Finder>(
+        &self,
+        alloc: Global,
+        _context: Context<'_>,
+        _lent: &Lent<'_, F>,
+        route: &AccessRoute,
+        request: &Request,
+    ) -> Result<AccessOperation, Stop> {
+        let (verb, body) = (request.verb, &request.body);
+        match route {
+            AccessRoute::Groups => groups::groups_asked(alloc, verb, body),
+            AccessRoute::Group(name) => groups::group_asked(alloc, name, verb, body),
+            AccessRoute::Users => users::users_asked(alloc, verb, body),
+            AccessRoute::User(name) => users::user_asked(alloc, name, verb),
+            AccessRoute::Containers => containers::containers_asked(verb),
+            AccessRoute::Container(name) => containers::container_asked(alloc, name, verb),
+            AccessRoute::List(collection, name) => {
+                lists::list_asked(alloc, collection, name, verb)
+            }
+            AccessRoute::Entry(collection, name, word) => {
+                lists::entry_asked(alloc, collection, name, word, verb, body)
+            }
+        }
+    }
+
+    fn lacks<F: Finder>(
+        &self,
+        _alloc: Global,
+        context: Context<'_>,
+        _lent: &Lent<'_, F>,
+        operation: &AccessOperation,
+    ) -> Result<bool, NoMemory> {
+        let state = context.state;
+        Ok(match operation {
+            AccessOperation::ListGroups
+            | AccessOperation::CreateGroup(_)
+            | AccessOperation::ListUsers
+            | AccessOperation::CreateUser(_)
+            | AccessOperation::ListContainers => false,
+            AccessOperation::ShowGroup(name)
+            | AccessOperation::ReplaceGroup(name, _)
+            | AccessOperation::RemoveGroup(name) => groups::lacks_group(name, state),
+            AccessOperation::ShowUser(name) | AccessOperation::RemoveUser(name) => {
+                users::lacks_user(name, state)
+            }
+            AccessOperation::ShowContainer(name) => containers::lacks_container(name),
+            AccessOperation::ShowList(key) | AccessOperation::ReplaceEntry(key, _, _) => {
+                lists::lacks_list(key, state)
+            }
+        })
+    }
+
+    fn needs<F: Finder>(
+        &self,
+        alloc: Global,
+        _context: Context<'_>,
+        _lent: &Lent<'_, F>,
+        operation: &AccessOperation,
+    ) -> Result<Needs, NoMemory> {
+        let mut needs = Needs::new(alloc);
+        needs.push(needed(alloc, operation)?)?;
+        Ok(needs)
+    }
+
+    fn own_refusal<F: Finder>(
+        &self,
+        alloc: Global,
+        context: Context<'_>,
+        _lent: &Lent<'_, F>,
+        operation: &AccessOperation,
+    ) -> Result<Option<Refusal>, NoMemory> {
+        let state = context.state;
+        match operation {
+            AccessOperation::CreateGroup(name) => {
+                Ok(exists(state.groups().has(MemberKind::Group, name)))
+            }
+            AccessOperation::ReplaceGroup(_, group) => groups::stranger(alloc, group, state),
+            AccessOperation::RemoveGroup(name) => Ok(starting(name)),
+            AccessOperation::CreateUser(name) => Ok(exists(state.groups().is_actor(name))),
+            AccessOperation::ReplaceEntry(_, _, entry) => lists::stranger(alloc, entry, state),
+            AccessOperation::ListGroups
+            | AccessOperation::ShowGroup(_)
+            | AccessOperation::ListUsers
+            | AccessOperation::ShowUser(_)
+            | AccessOperation::RemoveUser(_)
+            | AccessOperation::ListContainers
+            | AccessOperation::ShowContainer(_)
+            | AccessOperation::ShowList(_) => Ok(None),
+        }
+    }
+
+    fn does<F: Finder, L: Ledger>(
+        &self,
+        alloc: Global,
+        context: Context<'_>,
+        _lent: &Lent<'_, F>,
+        operation: AccessOperation,
+        _steps: &mut Steps<L>,
+    ) -> Result<Prepared, Stop> {
+        Ok(match operation {
+            AccessOperation::ListGroups => groups::list(alloc, context)?,
+            AccessOperation::CreateGroup(name) => groups::create(alloc, context, name)?,
+            AccessOperation::ShowGroup(name) => groups::show(alloc, context, &name)?,
+            AccessOperation::ReplaceGroup(name, group) => {
+                groups::replace(alloc, context, name, &group)?
+            }
+            AccessOperation::RemoveGroup(name) => groups::remove(alloc, context, name)?,
+            AccessOperation::ListUsers => users::list(alloc, context)?,
+            AccessOperation::CreateUser(name) => users::create(alloc, context, &name)?,
+            AccessOperation::ShowUser(name) => users::show(alloc, &name)?,
+            AccessOperation::RemoveUser(name) => users::remove(alloc, name)?,
+            AccessOperation::ListContainers => containers::list(alloc, context)?,
+            AccessOperation::ShowContainer(name) => containers::show(alloc, &name)?,
+            AccessOperation::ShowList(key) => lists::show(alloc, &key, context.state)?,
+            AccessOperation::ReplaceEntry(key, permission, entry) => {
+                lists::replace(alloc, key, permission, entry, context.state)?
+            }
+        })
+    }
+}
+
+/// The permission that an operation needs.
+fn needed(alloc: Global, operation: &AccessOperation) -> Result<Need, NoMemory>
+    ensures { IfOk result (λ need. need ≡ spec.access_need operation.now) }
+{
+    match operation {
+        AccessOperation::ListGroups => listed_need(alloc, Perm::Read, Kind::Container, "groups"),
+        AccessOperation::CreateGroup(_) => listed_need(
+            alloc,
+            Perm::Create,
+            Kind::Container,
+            "groups",
+        ),
+        AccessOperation::ShowGroup(name) => listed_need(
+            alloc,
+            Perm::Read,
+            Kind::Group,
+            name.as_str(),
+        ),
+        AccessOperation::ReplaceGroup(name, _) => {
+            listed_need(alloc, Perm::Update, Kind::Group, name.as_str())
+        }
+        AccessOperation::RemoveGroup(name) => {
+            listed_need(alloc, Perm::Delete, Kind::Group, name.as_str())
+        }
+        AccessOperation::ListUsers | AccessOperation::ShowUser(_) => {
+            listed_need(alloc, Perm::Read, Kind::Group, "users")
+        }
+        AccessOperation::CreateUser(_) | AccessOperation::RemoveUser(_) => {
+            listed_need(alloc, Perm::Update, Kind::Group, "users")
+        }
+        AccessOperation::ListContainers => {
+            listed_need(alloc, Perm::Read, Kind::Container, "containers")
+        }
+        AccessOperation::ShowContainer(name) => {
+            listed_need(alloc, Perm::Read, Kind::Container, name.as_str())
+        }
+        AccessOperation::ShowList(key) | AccessOperation::ReplaceEntry(key, _, _) => {
+            listed_need(alloc, Perm::Grant, key.kind, key.name.as_str())
+        }
+    }
+}
+
+/// 409 where what is to be created is there.
+fn exists(is_there: bool) -> Option<Refusal>
+    ensures { result ≡ refuses Refusal.AlreadyExists is_there }
+{
+    if is_there {
+        Some(Refusal::AlreadyExists)
+    } else {
+        None
+    }
+}
+
+/// 405 where the group is one with which every organisation starts.
+fn starting(name: &Text) -> Option<Refusal>
+    ensures { result ≡ refuses Refusal.NotAllowed (is_starting_group name.now) }
+{
+    if is_starting_group(name.as_str()) {
+        Some(Refusal::NotAllowed)
+    } else {
+        None
+    }
+}

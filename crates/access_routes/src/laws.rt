@@ -1,0 +1,9 @@
+//! Laws of the definitions, which need no code.
+
+ghost use Rattle.org_core.specs.Keeping.{IsOrderlyGroup};
+ghost use Rattle.access_routes.specs.AccessRules.{access_rules};
+
+/// The moves of these routes are orderly: who comes, comes first.
+pub fn access_is_orderly()
+    ensures { IsOrderlyGroup access_rules }
+{}

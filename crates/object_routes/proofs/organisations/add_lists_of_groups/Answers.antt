@@ -1,0 +1,5 @@
+use Rattle.object_routes.proofs.AppendLemmas.{two_and_two}
+use Rattle.object_routes.proofs.organisations.add_lists_of_groups.Goals as goal
+
+pub returns : goal.returns
+returns c = two_and_two c.add_two_lists-2.result c.args.moves.now c.add_two_lists.new.moves c.add_two_lists-2.new.moves _ _ _ _ c.in_ok-add_two_lists.ensures c.add_two_lists-2.ensures

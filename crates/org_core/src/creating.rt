@@ -1,0 +1,71 @@
+//! What is created in a container, and the access list that it gets.
+
+ghost use Rattle.std.specs.Prelude.{◌≡◌, ◌++◌, Ok, IfOk, OnOk};
+ghost use Rattle.org_core.specs.Contexts.{seen};
+ghost use Rattle.org_core.specs.Creating as spec;
+ghost use Rattle.org_core.specs.Outcomes.{Finds};
+ghost use Rattle.org_core.specs.States.{state_in};
+
+use crate::contexts::Context;
+use crate::groups::Prepared;
+use crate::moves::{Move, Moves};
+use crate::needs::key_of;
+use crate::org_state::OrgState;
+use crate::replies::created;
+use crate::stored::Stored;
+use access_lists::{Acl, Container, starting_list};
+use doc_tree::{Kind, NoMemory, Text};
+use object_store::Key;
+use std::alloc::Global;
+
+/// The access list of what the caller creates in a container: the container's list, with the caller as
+/// an actor of all five permissions.
+pub fn created_list(
+    alloc: Global,
+    context: Context<'_>,
+    container: Container,
+) -> Result<Acl, NoMemory>
+    ensures { IfOk result (λ list. list ≡ spec.created_list container (seen context.entry)) }
+{
+    let list = container_list(alloc, context.state, container)?;
+    match context.caller {
+        Some(caller) => list.with_actor(alloc, caller),
+        None => Ok(list),
+    }
+}
+
+/// A copy of the access list of a container.
+fn container_list(alloc: Global, state: &OrgState, container: Container) -> Result<Acl, NoMemory>
+    ensures { IfOk result (λ list. list ≡ spec.container_list container (state_in state.now)) }
+{
+    let key = key_of(alloc, Kind::Container, container.name())?;
+    match state.acl(&key) {
+        Some(list) => list.copy(alloc),
+        None => starting_list(alloc, container),
+    }
+}
+
+/// Adds the moves by which an object comes into a container, with an access list of its own.
+pub fn add_with_list(
+    alloc: Global,
+    context: Context<'_>,
+    container: Container,
+    key: Key,
+    object: Stored,
+    moves: &mut Moves,
+) -> Result<(), NoMemory>
+    ensures { OnOk result (moves.new ≡ moves.old ++ spec.with_list container (seen context.entry) key.kind key.name object) }
+{
+    let list_key = key.copy(alloc)?;
+    let list = created_list(alloc, context, container)?;
+    moves.push(Move::Put(key, object))?;
+    moves.push(Move::PutList(list_key, list))
+}
+
+/// Something is created by these moves: 201 with its path.
+pub fn create_by(alloc: Global, path: Text, moves: Moves) -> Result<Prepared, NoMemory>
+    ensures { IfOk result (λ p. Finds (Ok p) (spec.created_by path moves).answer) }
+{
+    let reply = created(alloc, path)?;
+    Ok(Prepared { reply, moves })
+}

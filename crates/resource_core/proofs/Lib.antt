@@ -1,0 +1,9 @@
+pub mod EachLemmas
+pub mod CreatedLemmas
+pub mod TemplateLemmas
+pub mod TitleLemmas
+pub mod GraphLemmas
+pub mod LinkLemmas
+pub mod PlanLemmas
+pub mod SoundLemmas
+pub mod ToLemmas

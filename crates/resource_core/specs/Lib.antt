@@ -1,0 +1,17 @@
+pub mod Outcomes
+pub mod Types
+pub mod Paths
+pub mod Entries
+pub mod Templates
+pub mod Values
+pub mod Resources
+pub mod Drafts
+pub mod Links
+pub mod Graph
+pub mod Plans
+pub mod Views
+pub mod Titles
+pub mod Drafting
+pub mod Linking
+pub mod Searching
+pub mod Settling

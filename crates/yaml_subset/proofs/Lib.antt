@@ -1,0 +1,12 @@
+pub mod PairsLemmas
+pub mod MachineLemmas
+pub mod SignsLemmas
+pub mod ScalarLemmas
+pub mod QuotedLemmas
+pub mod TextsLemmas
+pub mod FlowLemmas
+pub mod SaidLemmas
+pub mod LiteralLemmas
+pub mod LinesLemmas
+pub mod FaultLemmas
+pub mod WrittenLemmas

@@ -1,0 +1,11 @@
+pub mod Signs
+pub mod Machine
+pub mod Quoted
+pub mod Scalar
+pub mod Flow
+pub mod Said
+pub mod Literal
+pub mod Layout
+pub mod Reader
+pub mod Spells
+pub mod Written
