@@ -1,3 +1,4 @@
+pub mod StrangerLemmas
 pub mod AccessLemmas
 pub mod PlainLemmas
 pub mod ContainersLemmas

@@ -1,7 +1,8 @@
--- What these groups do keeps the conditions of an organisation's objects.
+-- What these groups do keeps the conditions of an organisation's state.
 use Rattle.std.proofs.Common.{◌≡◌, ℕ, List, [], ◌∷◌, Bool, true, false, cond, not, ◌&&◌, IsTrue, IsFalse, IfSome, Option, Some, None, is_some, option_and_then, Result, Ok, Err, bytes_eq, codes, refl, sym, ap, subst, ◌∙◌}
-use Rattle.std.proofs.lemmas.Bool.{and_parts}
+use Rattle.std.proofs.lemmas.Bool.{and_parts, or_parts}
 use Rattle.access_lists.specs.declared.starting.Container.TheVariants as container
+use Rattle.access_lists.specs.Strangers.{is_actor}
 use Rattle.std.proofs.lemmas.Option.{same_Some}
 use Rattle.std.specs.Cmp.Lexicographic.{bytes_decides}
 use Rattle.std.specs.Ordering.{eq_by_cmp}
@@ -24,12 +25,14 @@ use Rattle.org_core.specs.Bodies.{document_in}
 use Rattle.org_core.specs.Collections.{kind_in}
 use Rattle.org_core.specs.Contexts.{Context}
 use Rattle.org_core.specs.Creating.{with_list}
-use Rattle.org_core.specs.Conditions.{IsNamed, IsItem, IsStored, MeetsConditions}
-use Rattle.org_core.specs.Keeping.{LeadsToConditions, KeepsConditions}
+use Rattle.org_core.specs.Conditions.{MeetsConditions}
+use Rattle.org_core.specs.Keeping.{Anyone, Someone, LeadsToConditions, KeepsConditions}
 use Rattle.org_core.specs.Moves.{after_moves}
 use Rattle.org_core.specs.Named.{text_of}
+use Rattle.org_core.specs.Needs.{if_named}
+use Rattle.org_core.specs.ObjectConditions.{has, IsNamed, IsItem, IsStored}
 use Rattle.org_core.specs.Refusals.{refuses}
-use Rattle.org_core.specs.States.{State, has_object}
+use Rattle.org_core.specs.States.{State, Organisation, has_object, membership_of}
 use Rattle.org_core.specs.declared.collections.Collection.{Collection}
 use Rattle.org_core.specs.declared.collections.Collection.TheVariants.{Nodes, Roles, Environments, Clients}
 use Rattle.org_core.specs.declared.moves.Move.TheVariants as move
@@ -40,10 +43,13 @@ use Rattle.org_core.specs.declared.routes.DataRoute.{DataRoute}
 use Rattle.org_core.specs.declared.routes.DataRoute.TheVariants as data_route
 use Rattle.org_core.specs.declared.routes.ObjectsRoute.{ObjectsRoute}
 use Rattle.org_core.specs.declared.routes.ObjectsRoute.TheVariants.{All, One}
-use Rattle.org_core.proofs.ConditionsLemmas.{same_keys, keeps_first, put_keeps, take_out_keeps, bag_removal_keeps, one_bag}
+use Rattle.org_core.proofs.ConditionsLemmas.{IsListedKey, created_known, create_keeps, create_client_keeps, replace_keeps, put_item_keeps, remove_keeps, remove_client_keeps, remove_item_keeps, remove_bag_keeps, start_keeps}
+use Rattle.org_core.proofs.AccessConditionsLemmas.{has_own_list}
+use Rattle.org_core.proofs.ReadLemmas.{IsRead, read_body, some_named, text_named}
+use Rattle.org_core.proofs.ObjectConditionsLemmas.{same_keys, one_bag}
 use Rattle.org_core.specs.Bodies.{or_bad_field, object_said, object_in_body}
 use Rattle.object_routes.specs.DataBags.{data_rules, data_asked, post_item, put_item, id_of, lacks_bag, lacks_item}
-use Rattle.object_routes.specs.Objects.{objects_rules, objects_asked, name_of, put_one, is_fixed, creation, removal}
+use Rattle.object_routes.specs.Objects.{objects_rules, objects_asked, name_of, put_one, is_fixed, is_taken, lacks_named, creation, removal}
 use Rattle.object_routes.specs.Operations.{creating, replacing, creating_bag, creating_item, replacing_item}
 use Rattle.object_routes.specs.Organisations.{organisation_rules, default_environment}
 use Rattle.object_routes.specs.Organisations as organisations
@@ -74,52 +80,19 @@ other_environment name free = same_environment name _ refl free
 
 -- ---- organisations
 
--- a new organisation has the environment `_default` alone
+-- a new organisation meets them
 pub new_keeps : MeetsConditions (after_moves organisations.creation None)
-new_keeps = keeps_first default_environment (refl, refl)
+new_keeps = start_keeps default_environment (refl, refl)
 
 created : (state : State) → refuses AlreadyExists (is_some state) ≡ None → MeetsConditions (after_moves organisations.creation state)
 created None new = new_keeps
 created (Some there) new = cc
 
-pub organisations_keep : KeepsConditions organisation_rules
-organisations_keep context route request organisation.Create meets asked lacks refused = created context.state refused
-organisations_keep context route request organisation.Show meets asked lacks refused = meets
+pub organisations_keep : KeepsConditions Anyone organisation_rules
+organisations_keep context route request organisation.Create meets anyone asked lacks refused = created context.state refused
+organisations_keep context route request organisation.Show meets anyone asked lacks refused = meets
 
 -- ---- what was read of a body
-
--- a body was read as this object, of this kind and, where it is replaced, of this name
-abbrev pub IsRead : Kind → Option (List ℕ) → Doc → Type 0
-IsRead kind name object = (doc : Doc) × (object_from kind name doc ≡ Ok object)
-
-read_field : (read : Result Doc (List ℕ)) (object : Doc) → or_bad_field read ≡ Ok object → read ≡ Ok object
-read_field (Ok d) object is = cc
-read_field (Err field) object is = cc
-
-read_said : (kind : Kind) (name : Option (List ℕ)) (document : Result Doc Refusal) (object : Doc) → object_said kind name document ≡ Ok object → IsRead kind name object
-read_said kind name (Ok doc) object is = (doc, read_field (object_from kind name doc) object is)
-read_said kind name (Err refusal) object is = cc
-
-read_body : (kind : Kind) (name : Option (List ℕ)) (body : Body) (object : Doc) → object_in_body kind name body ≡ Ok object → IsRead kind name object
-read_body kind name body object is = read_said kind name (document_in body) object is
-
--- the text at the key of a name is the name that was found there
-text_named : (found : Option Doc) (name : List ℕ) → option_and_then name_from found ≡ Some name → (text_of found ≡ name) × (is_name name ≡ true)
-text_named None name is = cc
-text_named (Some null) name is = cc
-text_named (Some (boolean b)) name is = cc
-text_named (Some (whole z)) name is = cc
-text_named (Some (words text)) name is =
-    elim (is_name text) as (λ b. is_name text ≡ b → cond b (Some text) None ≡ Some name → (text ≡ name) × (is_name name ≡ true)) [
-      | true ↦ λ named same. let at = same_Some text name same in (at, subst (λ (t : List ℕ). is_name t ≡ true) at named)
-      | false ↦ λ named none. cc
-    ] refl is
-text_named (Some (list ds)) name is = cc
-text_named (Some (dict ps)) name is = cc
-
-some_named : (found : Option (List ℕ)) → IsTrue (is_some found) → (name : List ℕ) × (found ≡ Some name)
-some_named None h = cc
-some_named (Some name) h = (name, refl)
 
 -- an object of a kind without ids, as it is stored under its name
 named_new : (kind : Kind) (object : Doc) → IsFalse (is_item kind) → key_of kind ≡ codes "name" → IsRead kind None object → IsNamed kind (name_of object) object
@@ -194,66 +167,86 @@ no_item_in Roles name other same = item_is kinds.Role (ap (λ (k : Key). k.kind)
 no_item_in Environments name other same = item_is kinds.Environment (ap (λ (k : Key). k.kind) same) refl
 no_item_in Clients name other same = item_is kinds.Client (ap (λ (k : Key). k.kind) same) refl
 
-put_in : (collection : Collection) (state : State) (name : List ℕ) (object : Doc) → MeetsConditions state → IsNamed (kind_in collection) name object
-    → MeetsConditions (after_moves (move.Put (key (kind_in collection) name) object ∷ []) state)
-put_in collection state name object meets this =
-    put_keeps state (key (kind_in collection) name) object meets (stored_in collection name object this) (λ bag id named same. absurd (no_item_in collection name (item_name bag id) same))
+-- the keys of a collection's objects, other than clients
+listed_key : (kind : Kind) (name : List ℕ) → has_own_list kind ≡ true → ((client : List ℕ) → eq_by_cmp key_cmp (key kinds.Client client) (key kind name) ≡ false) → IsFalse (is_item kind) → IsListedKey (key kind name)
+listed_key kind name own apart plain = record { own = own; no_client = apart; no_item = λ item same. item_is kind (ap (λ (k : Key). k.kind) same) plain }
 
--- beside the object its list is put in, and of a client its name: the objects are as the one put leaves them
-created_in : (collection : Collection) (context : Context) (state : State) (name : List ℕ) (object : Doc)
-    → MeetsConditions (after_moves (move.Put (key (kind_in collection) name) object ∷ []) state) → MeetsConditions (after_moves (creation collection context name object) state)
-created_in Nodes context None name object meets = tt
-created_in Nodes context (Some o) name object meets = meets
-created_in Roles context None name object meets = tt
-created_in Roles context (Some o) name object meets = meets
-created_in Environments context None name object meets = tt
-created_in Environments context (Some o) name object meets = meets
-created_in Clients context None name object meets = tt
-created_in Clients context (Some o) name object meets = meets
+-- an organisation that isn't there stays so
+none_created : (collection : Collection) (context : Context) (name : List ℕ) (object : Doc) → MeetsConditions (after_moves (creation collection context name object) None)
+none_created Nodes context name object = tt
+none_created Roles context name object = tt
+none_created Environments context name object = tt
+none_created Clients context name object = tt
 
-removed_in : (collection : Collection) (state : State) (name : List ℕ)
-    → MeetsConditions (after_moves (move.TakeOut (key (kind_in collection) name) ∷ []) state) → MeetsConditions (after_moves (removal collection name) state)
-removed_in Nodes None name meets = tt
-removed_in Nodes (Some o) name meets = meets
-removed_in Roles None name meets = tt
-removed_in Roles (Some o) name meets = meets
-removed_in Environments None name meets = tt
-removed_in Environments (Some o) name meets = meets
-removed_in Clients None name meets = tt
-removed_in Clients (Some o) name meets = meets
+none_removed : (collection : Collection) (name : List ℕ) → MeetsConditions (after_moves (removal collection name) None)
+none_removed Nodes name = tt
+none_removed Roles name = tt
+none_removed Environments name = tt
+none_removed Clients name = tt
 
--- nor bags
-no_bag_in : (collection : Collection) (name bag : List ℕ) → eq_by_cmp key_cmp (key kinds.Bag bag) (key (kind_in collection) name) ≡ false
-no_bag_in Nodes name bag = refl
-no_bag_in Roles name bag = refl
-no_bag_in Environments name bag = refl
-no_bag_in Clients name bag = refl
+-- the context of a request
+abbrev asking : List ℕ → Option (List ℕ) → Organisation → Context
+asking org caller o = record { org = org; caller = caller; state = Some o }
 
--- and what isn't fixed isn't the environment `_default`
-not_default : (collection : Collection) (name : List ℕ) → is_fixed collection name ≡ false → eq_by_cmp key_cmp (key kinds.Environment (codes "_default")) (key (kind_in collection) name) ≡ false
-not_default Nodes name free = refl
-not_default Roles name free = refl
-not_default Environments name free = other_environment name free
-not_default Clients name free = refl
+created_in : (collection : Collection) (org : List ℕ) (caller : Option (List ℕ)) (o : Organisation) (name : List ℕ) (object : Doc) → MeetsConditions (Some o) → if_named (is_actor o.membership) caller ≡ true
+    → IsNamed (kind_in collection) name object → is_taken collection name (Some o) ≡ false → MeetsConditions (after_moves (creation collection (asking org caller o) name object) (Some o))
+created_in Nodes org caller o name object meets known this free =
+    create_keeps o (key kinds.Node name) object _ meets (listed_key kinds.Node name refl (λ client. refl) refl) this (created_known container.Nodes caller org o meets.1.0 known)
+created_in Roles org caller o name object meets known this free =
+    create_keeps o (key kinds.Role name) object _ meets (listed_key kinds.Role name refl (λ client. refl) refl) this (created_known container.Roles caller org o meets.1.0 known)
+created_in Environments org caller o name object meets known this free =
+    create_keeps o (key kinds.Environment name) object _ meets (listed_key kinds.Environment name refl (λ client. refl) refl) this (created_known container.Environments caller org o meets.1.0 known)
+created_in Clients org caller o name object meets known this free =
+    create_client_keeps o (codes "clients") name object _ meets this this.0 (or_parts (is_actor o.membership name) (has o.objects kinds.Client name) free).0
+    (created_known container.Clients caller org o meets.1.0 known)
 
 not_refused : (refusal : Refusal) (b : Bool) → refuses refusal b ≡ None → b ≡ false
 not_refused refusal true is = cc
 not_refused refusal false is = refl
 
-objects_do : (collection : Collection) (context : Context) (operation : ObjectsOperation) → MeetsConditions context.state → WasRead (kind_in collection) operation
-    → (objects_rules collection).own_refusal context operation ≡ None → LeadsToConditions context.state ((objects_rules collection).does context operation)
-objects_do collection context objects.List meets read refused = meets
-objects_do collection context (objects.Create object) meets read refused =
-    created_in collection context context.state (name_of object) object (put_in collection context.state (name_of object) object meets (new_in collection object read))
-objects_do collection context (objects.Show name) meets read refused = meets
-objects_do collection context (objects.Replace name object) meets read refused = put_in collection context.state name object meets (again_in collection name object read.0 read.1)
-objects_do collection context (objects.Remove name) meets read refused =
-    removed_in collection context.state name
-    (take_out_keeps context.state (key (kind_in collection) name) meets (no_bag_in collection name) (not_default collection name (not_refused NotAllowed (is_fixed collection name) refused)))
+removed_in : (collection : Collection) (o : Organisation) (name : List ℕ) → MeetsConditions (Some o) → is_fixed collection name ≡ false → MeetsConditions (after_moves (removal collection name) (Some o))
+removed_in Nodes o name meets free = remove_keeps o (key kinds.Node name) meets (listed_key kinds.Node name refl (λ client. refl) refl) (λ bag. refl) refl
+removed_in Roles o name meets free = remove_keeps o (key kinds.Role name) meets (listed_key kinds.Role name refl (λ client. refl) refl) (λ bag. refl) refl
+removed_in Environments o name meets free =
+    remove_keeps o (key kinds.Environment name) meets (listed_key kinds.Environment name refl (λ client. refl) refl) (λ bag. refl) (other_environment name free)
+removed_in Clients o name meets free = remove_client_keeps o name meets
 
-pub objects_keep : (collection : Collection) → KeepsConditions (objects_rules collection)
-objects_keep collection context route request operation meets asked lacks refused =
-    objects_do collection context operation meets (asked_read collection route request.verb request.body operation asked) refused
+-- what isn't missing is there
+named_there : (kind : Kind) (name : List ℕ) (state : State) → lacks_named kind name state ≡ false → has_object state kind name ≡ true
+named_there kind name state found = (and_parts (is_name name) (has_object state kind name) (not_false _ found)).1
+
+objects_do : (collection : Collection) (org : List ℕ) (caller : Option (List ℕ)) (o : Organisation) (operation : ObjectsOperation) → MeetsConditions (Some o) → if_named (is_actor o.membership) caller ≡ true
+    → WasRead (kind_in collection) operation → (objects_rules collection).lacks (asking org caller o) operation ≡ false → (objects_rules collection).own_refusal (asking org caller o) operation ≡ None
+    → LeadsToConditions (Some o) ((objects_rules collection).does (asking org caller o) operation)
+objects_do collection org caller o objects.List meets known read found refused = meets
+objects_do collection org caller o (objects.Create object) meets known read found refused =
+    created_in collection org caller o (name_of object) object meets known (new_in collection object read) (not_refused AlreadyExists (is_taken collection (name_of object) (Some o)) refused)
+objects_do collection org caller o (objects.Show name) meets known read found refused = meets
+objects_do collection org caller o (objects.Replace name object) meets known read found refused =
+    replace_keeps o (key (kind_in collection) name) object meets (named_there (kind_in collection) name (Some o) found)
+    (stored_in collection name object (again_in collection name object read.0 read.1)) (λ bag id named same. absurd (no_item_in collection name (item_name bag id) same))
+objects_do collection org caller o (objects.Remove name) meets known read found refused =
+    removed_in collection o name meets (not_refused NotAllowed (is_fixed collection name) refused)
+
+-- nothing is done to an organisation that isn't there
+objects_undone : (collection : Collection) (org : List ℕ) (caller : Option (List ℕ)) (operation : ObjectsOperation)
+    → LeadsToConditions None ((objects_rules collection).does (record { org = org; caller = caller; state = None }) operation)
+objects_undone collection org caller objects.List = tt
+objects_undone collection org caller (objects.Create object) = none_created collection (record { org = org; caller = caller; state = None }) (name_of object) object
+objects_undone collection org caller (objects.Show name) = tt
+objects_undone collection org caller (objects.Replace name object) = tt
+objects_undone collection org caller (objects.Remove name) = none_removed collection name
+
+objects_in : (collection : Collection) (org : List ℕ) (caller : Option (List ℕ)) (state : State) (operation : ObjectsOperation) → MeetsConditions state → if_named (is_actor (membership_of state)) caller ≡ true
+    → WasRead (kind_in collection) operation → (objects_rules collection).lacks (record { org = org; caller = caller; state = state }) operation ≡ false
+    → (objects_rules collection).own_refusal (record { org = org; caller = caller; state = state }) operation ≡ None
+    → LeadsToConditions state ((objects_rules collection).does (record { org = org; caller = caller; state = state }) operation)
+objects_in collection org caller None operation meets known read found refused = objects_undone collection org caller operation
+objects_in collection org caller (Some o) operation meets known read found refused = objects_do collection org caller o operation meets known read found refused
+
+pub objects_keep : (collection : Collection) → KeepsConditions Someone (objects_rules collection)
+objects_keep collection context route request operation meets known asked found refused =
+    objects_in collection context.org context.caller context.state operation meets known (asked_read collection route request.verb request.body operation asked) found refused
 
 -- ---- data bags and their items
 
@@ -325,13 +318,13 @@ new_item bag item named (doc, read) =
 item_again : (bag id : List ℕ) (item : Doc) → is_name bag ≡ true → is_name id ≡ true → IsRead kinds.Item (Some id) item → IsItem (item_name bag id) item
 item_again bag id item named id_named (doc, read) = item_stored bag id (Some id) item named id_named (doc, read) (named_from kinds.Item (Some id) doc item id_named read)
 
-item_put_in : (state : State) (bag id : List ℕ) (item : Doc) → MeetsConditions state → is_name bag ≡ true → has_object state kinds.Bag bag ≡ true → IsItem (item_name bag id) item
-    → MeetsConditions (after_moves (move.Put (key kinds.Item (item_name bag id)) item ∷ []) state)
-item_put_in state bag id item meets named there this =
-    put_keeps state (key kinds.Item (item_name bag id)) item meets this
+item_put_in : (o : Organisation) (bag id : List ℕ) (item : Doc) → MeetsConditions (Some o) → is_name bag ≡ true → has o.objects kinds.Bag bag ≡ true → IsItem (item_name bag id) item
+    → MeetsConditions (after_moves (move.Put (key kinds.Item (item_name bag id)) item ∷ []) (Some o))
+item_put_in o bag id item meets named there this =
+    put_item_keeps o (item_name bag id) item meets this
     (λ other other_id other_named same.
     let one : other ≡ bag = one_bag other other_id bag id other_named named (ap (λ (k : Key). k.name) same) in
-    subst (λ (b : List ℕ). has_object state kinds.Bag b ≡ true) (sym one) there)
+    subst (λ (b : List ℕ). has o.objects kinds.Bag b ≡ true) (sym one) there)
 
 -- the item that isn't missing
 item_found : (bag id : List ℕ) (state : State) → lacks_item bag id state ≡ false → (is_name bag ≡ true) × (has_object state kinds.Bag bag ≡ true)
@@ -339,28 +332,38 @@ item_found bag id state found =
     let parts = and_parts (is_name bag && is_name id) (has_object state kinds.Bag bag && has_object state kinds.Item (item_name bag id)) (not_false _ found) in
     ((and_parts (is_name bag) (is_name id) parts.0).0, (and_parts (has_object state kinds.Bag bag) (has_object state kinds.Item (item_name bag id)) parts.1).0)
 
--- beside a bag its list is put in
-bag_put_in : (context : Context) (state : State) (name : List ℕ) (object : Doc) → MeetsConditions (after_moves (move.Put (key kinds.Bag name) object ∷ []) state)
-    → MeetsConditions (after_moves (with_list container.Data context kinds.Bag name object) state)
-bag_put_in context None name object meets = tt
-bag_put_in context (Some o) name object meets = meets
+data_do : (org : List ℕ) (caller : Option (List ℕ)) (o : Organisation) (operation : DataOperation) → MeetsConditions (Some o) → if_named (is_actor o.membership) caller ≡ true → DataWasRead operation
+    → data_rules.lacks (asking org caller o) operation ≡ false → LeadsToConditions (Some o) (data_rules.does (asking org caller o) operation)
+data_do org caller o bags.ListBags meets known read found = meets
+data_do org caller o (bags.CreateBag object) meets known read found =
+    create_keeps o (key kinds.Bag (name_of object)) object _ meets (listed_key kinds.Bag (name_of object) refl (λ client. refl) refl) (named_new kinds.Bag object refl refl read)
+    (created_known container.Data caller org o meets.1.0 known)
+data_do org caller o (bags.ListItems bag) meets known read found = meets
+data_do org caller o (bags.CreateItem bag item) meets known read found =
+    let there = bag_found bag (Some o) found in
+    item_put_in o bag (id_of item) item meets there.0 there.1 (new_item bag item there.0 read)
+data_do org caller o (bags.RemoveBag bag) meets known read found = remove_bag_keeps (Some o) bag meets
+data_do org caller o (bags.ShowItem bag id) meets known read found = meets
+data_do org caller o (bags.ReplaceItem bag id item) meets known read found =
+    let there = item_found bag id (Some o) found in
+    item_put_in o bag id item meets there.0 there.1 (item_again bag id item there.0 read.0 read.1)
+data_do org caller o (bags.RemoveItem bag id) meets known read found = remove_item_keeps o (item_name bag id) meets
 
-data_do : (context : Context) (operation : DataOperation) → MeetsConditions context.state → DataWasRead operation → data_rules.lacks context operation ≡ false
-    → LeadsToConditions context.state (data_rules.does context operation)
-data_do context bags.ListBags meets read found = meets
-data_do context (bags.CreateBag object) meets read found =
-    bag_put_in context context.state (name_of object) object
-    (put_keeps context.state (key kinds.Bag (name_of object)) object meets (named_new kinds.Bag object refl refl read) (λ bag id named same. absurd (item_is kinds.Bag (ap (λ (k : Key). k.kind) same) refl)))
-data_do context (bags.ListItems bag) meets read found = meets
-data_do context (bags.CreateItem bag item) meets read found =
-    let there = bag_found bag context.state found in
-    item_put_in context.state bag (id_of item) item meets there.0 there.1 (new_item bag item there.0 read)
-data_do context (bags.RemoveBag bag) meets read found = bag_removal_keeps context.state bag meets
-data_do context (bags.ShowItem bag id) meets read found = meets
-data_do context (bags.ReplaceItem bag id item) meets read found =
-    let there = item_found bag id context.state found in
-    item_put_in context.state bag id item meets there.0 there.1 (item_again bag id item there.0 read.0 read.1)
-data_do context (bags.RemoveItem bag id) meets read found = take_out_keeps context.state (key kinds.Item (item_name bag id)) meets (λ other. refl) refl
+data_undone : (org : List ℕ) (caller : Option (List ℕ)) (operation : DataOperation) → LeadsToConditions None (data_rules.does (record { org = org; caller = caller; state = None }) operation)
+data_undone org caller bags.ListBags = tt
+data_undone org caller (bags.CreateBag object) = tt
+data_undone org caller (bags.ListItems bag) = tt
+data_undone org caller (bags.CreateItem bag item) = tt
+data_undone org caller (bags.RemoveBag bag) = remove_bag_keeps None bag tt
+data_undone org caller (bags.ShowItem bag id) = tt
+data_undone org caller (bags.ReplaceItem bag id item) = tt
+data_undone org caller (bags.RemoveItem bag id) = tt
 
-pub data_keep : KeepsConditions data_rules
-data_keep context route request operation meets asked lacks refused = data_do context operation meets (data_read route request.verb request.body operation asked) lacks
+data_in : (org : List ℕ) (caller : Option (List ℕ)) (state : State) (operation : DataOperation) → MeetsConditions state → if_named (is_actor (membership_of state)) caller ≡ true → DataWasRead operation
+    → data_rules.lacks (record { org = org; caller = caller; state = state }) operation ≡ false → LeadsToConditions state (data_rules.does (record { org = org; caller = caller; state = state }) operation)
+data_in org caller None operation meets known read found = data_undone org caller operation
+data_in org caller (Some o) operation meets known read found = data_do org caller o operation meets known read found
+
+pub data_keep : KeepsConditions Someone data_rules
+data_keep context route request operation meets known asked found refused =
+    data_in context.org context.caller context.state operation meets known (data_read route request.verb request.body operation asked) found

@@ -5,7 +5,7 @@ ghost use Rattle.doc_tree.specs.Doc.{words};
 ghost use Rattle.doc_tree.specs.declared.kind.Kind.TheVariants as kinds;
 ghost use Rattle.object_forms.specs.Objects.{object_from};
 ghost use Rattle.org_core.specs.Conditions.{MeetsConditions};
-ghost use Rattle.org_core.specs.Keeping.{KeepsConditions};
+ghost use Rattle.org_core.specs.Keeping.{Anyone, KeepsConditions, Someone};
 ghost use Rattle.org_core.specs.Moves.{after_moves};
 ghost use Rattle.org_core.specs.Replies.{one_key};
 ghost use Rattle.org_core.specs.declared.collections.Collection as collections;
@@ -18,11 +18,11 @@ pub fn default_environment_is_read()
     ensures { object_from kinds.Environment None (one_key (codes "name") (words (codes "_default"))) ≡ Ok default_environment }
 {}
 
-/// A new organisation meets the conditions of every organisation's objects, and what each group does
-/// keeps them.
+/// A new organisation meets the conditions of every organisation's state. Creating one keeps them,
+/// whoever asks, and so does what each other group does for a caller whom the organisation knows.
 pub fn groups_keep_conditions()
     ensures new { MeetsConditions (after_moves creation None) }
-    ensures organisations { KeepsConditions organisation_rules }
-    ensures objects { (collection : collections.Collection) → KeepsConditions (objects_rules collection) }
-    ensures data_bags { KeepsConditions data_rules }
+    ensures organisations { KeepsConditions Anyone organisation_rules }
+    ensures objects { (collection : collections.Collection) → KeepsConditions Someone (objects_rules collection) }
+    ensures data_bags { KeepsConditions Someone data_rules }
 {}

@@ -1,275 +1,225 @@
--- Moves that keep the conditions of an organisation's objects.
-use Rattle.std.proofs.Common.{◌≡◌, ℕ, List, [], ◌∷◌, ◌++◌, map, Bool, true, false, cond, ◌||◌, Option, Some, None, is_some, codes, bytes_eq, refl, sym, ap, subst, ◌∙◌, append_assoc}
-use Rattle.std.proofs.lemmas.Bool.{and_parts}
-use Rattle.std.proofs.lemmas.Option.{same_Some}
-use Rattle.std.specs.Cmp.{tied_itself}
-use Rattle.std.specs.Cmp.Lexicographic.{bytes_decides}
+-- Moves that keep the conditions of an organisation's state.
+use Rattle.std.proofs.Common.{◌≡◌, ℕ, List, [], ◌∷◌, ◌++◌, map, Bool, true, false, cond, not, ◌&&◌, ◌||◌, Option, Some, None, is_some, unwrap_or, codes, bytes_eq, refl, sym, ap, subst, ◌∙◌}
 use Rattle.std.specs.FinMap as finite
-use Rattle.std.specs.List.{filter_map, cons_option, list_any, list_all}
-use Rattle.std.specs.Ordering.{is_eq, eq_by_cmp}
-use Rattle.std.specs.declared.cmp.Ordering.{Ordering}
-use Rattle.std.specs.declared.cmp.Ordering.TheVariants.{Less, Equal, Greater}
+use Rattle.std.specs.FinSet as set
+use Rattle.std.specs.Ordering.{eq_by_cmp}
+use Rattle.access_lists.specs.declared.acl.Acl.{Acl}
+use Rattle.access_lists.specs.declared.member_kind.MemberKind.{MemberKind}
+use Rattle.access_lists.specs.declared.member_kind.MemberKind.TheVariants as member
+use Rattle.access_lists.specs.declared.starting.Container.{Container}
+use Rattle.access_lists.specs.Changes.{with_client}
+use Rattle.access_lists.specs.Members.{Members, Membership}
+use Rattle.access_lists.specs.Starting.{name_of, no_members, is_starting_group, starting_list}
+use Rattle.access_lists.specs.Strangers as membership
 use Rattle.doc_tree.specs.Doc.{Doc}
-use Rattle.doc_tree.specs.Name.{is_name, is_name_byte}
+use Rattle.doc_tree.specs.Name.{is_name}
 use Rattle.doc_tree.specs.declared.kind.Kind.{Kind}
-use Rattle.doc_tree.specs.declared.kind.Kind.TheVariants.{Environment, Bag, Item}
-use Rattle.object_store.proofs.ItemsLemmas.{behind_front-joined}
-use Rattle.object_store.specs.Items.{behind_front, item_front, item_name, ids_in}
-use Rattle.object_store.specs.Keys.{is_of, names_of, key_cmp_total, key_cmp_ties}
+use Rattle.doc_tree.specs.declared.kind.Kind.TheVariants as kinds
+use Rattle.object_store.specs.Items.{item_name, ids_in}
 use Rattle.object_store.specs.Objects.{Objects, key, key_cmp}
 use Rattle.object_store.specs.declared.key.Key.{Key}
+use Rattle.org_core.proofs.AccessConditionsLemmas.{NamesKnown, Comes, comes_client, contains-left, contains-put, has_own_list, known_grows, left-at, list_known, objects_alone, put-at, put_list, put_with_list, take_with_list, with_known}
+use Rattle.org_core.proofs.AccessConditionsLemmas as lemmas
+use Rattle.org_core.proofs.ObjectConditionsLemmas.{items_taken_out, keeps_bag_removal, keeps_first, keeps_put, keeps_take_out, nobody_taken_out, same_keys, without_items}
+use Rattle.org_core.proofs.StartingConditionsLemmas.{key_named, started, starting_known, starts, starts_without_clients}
+use Rattle.org_core.specs.AccessConditions.{AccessConditions, HasItsClients, has_member}
+use Rattle.org_core.specs.Comers.{Coming}
+use Rattle.org_core.specs.Conditions.{MeetsConditions}
+use Rattle.org_core.specs.Contexts.{Context}
+use Rattle.org_core.specs.Creating.{container_list, created_list, with_creator}
+use Rattle.org_core.specs.Moves.{after_moves, joins, with_objects}
+use Rattle.org_core.specs.Needs.{if_named, is_known}
+use Rattle.org_core.specs.ObjectConditions.{has, IsStored, ObjectConditions}
+use Rattle.org_core.specs.States.{State, Organisation, has_object, list_in, membership_of, objects_of}
 use Rattle.org_core.specs.declared.moves.Move.{Move}
-use Rattle.org_core.specs.declared.moves.Move.TheVariants.{Put, TakeOut, TakeList}
-use Rattle.org_core.specs.Moves.{after_moves, with_objects}
-use Rattle.org_core.specs.States.{State, Organisation, objects_of, has_object}
-use Rattle.org_core.specs.Conditions.{has, IsStored, Conditions, MeetsConditions}
+use Rattle.org_core.specs.declared.moves.Move.TheVariants.{Put, TakeOut, PutList, TakeList, AddUser, AddClient, RemoveUser, RemoveClient, PutGroup, RemoveGroup}
 
-tied : (r : Ordering) → is_eq r ≡ true → r ≡ Equal
-tied Less same = cc
-tied Equal same = refl
-tied Greater same = cc
+-- ---- the list of what is created
 
--- keys that tie are one
-pub same_keys : (p q : Key) → eq_by_cmp key_cmp p q ≡ true → p ≡ q
-same_keys p q same = key_cmp_ties p q (tied (key_cmp p q) same)
+found_known : (o : Organisation) (k : Key) (default : Acl) (found : Option Acl) → finite.get o.lists k ≡ found → AccessConditions o → NamesKnown o.membership default → NamesKnown o.membership (unwrap_or found default)
+found_known o k default None is meets known = known
+found_known o k default (Some list) is meets known = list_known o k list meets is
 
-ties_itself : (k : Key) → eq_by_cmp key_cmp k k ≡ true
-ties_itself k = ap is_eq (tied_itself key_cmp_total k)
+container_known : (container : Container) (o : Organisation) → AccessConditions o → NamesKnown o.membership (container_list container (Some o))
+container_known container o meets =
+    found_known o (key kinds.Container (name_of container)) (starting_list container) (finite.get o.lists (key kinds.Container (name_of container))) refl meets
+    (starting_known o.membership container meets.starting)
 
-get-put : (objects : Objects) (k : Key) (object : Doc) (q : Key) → finite.get (finite.insert objects k object) q ≡ cond (eq_by_cmp key_cmp q k) (Some object) (finite.get objects q)
-get-put objects k object q = finite.get-insert key_cmp_total objects k object q
+creator_known : (m : Membership) (caller : Option (List ℕ)) (list : Acl) → NamesKnown m list → if_named (membership.is_actor m) caller ≡ true → NamesKnown m (with_creator caller list)
+creator_known m None list known is = cc
+creator_known m (Some name) list known is = with_known m name list known is
 
-get-left : (objects : Objects) (k q : Key) → finite.get (finite.remove objects k) q ≡ cond (eq_by_cmp key_cmp q k) None (finite.get objects q)
-get-left objects k q = finite.get-remove key_cmp_total objects k q
+-- everyone whom the list of a new object names is there
+pub created_known : (container : Container) (caller : Option (List ℕ)) (org : List ℕ) (o : Organisation) → AccessConditions o → if_named (membership.is_actor o.membership) caller ≡ true
+    → NamesKnown o.membership (created_list container (record { org = org; caller = caller; state = Some o }))
+created_known container caller org o meets is = creator_known o.membership caller (container_list container (Some o)) (container_known container o meets) is
 
--- ---- an object is put in
+-- ---- clients
 
-stored-put : (objects : Objects) (k : Key) (object : Doc) (b : Bool) (q : Key) (d : Doc) → Conditions objects → IsStored k.kind k.name object
-    → eq_by_cmp key_cmp q k ≡ b → cond b (Some object) (finite.get objects q) ≡ Some d → IsStored q.kind q.name d
-stored-put objects k object true q d meets this same is =
-    subst (λ (x : Key). IsStored x.kind x.name d) (sym (same_keys q k same)) (subst (λ (x : Doc). IsStored k.kind k.name x) (same_Some object d is) this)
-stored-put objects k object false q d meets this same is = meets.stored q d is
+other_put : (objects : Objects) (k : Key) (object : Doc) (name : List ℕ) → eq_by_cmp key_cmp (key kinds.Client name) k ≡ false → has (finite.insert objects k object) kinds.Client name ≡ has objects kinds.Client name
+other_put objects k object name other = ap is_some (put-at objects k object (key kinds.Client name)) ∙ ap (λ b. is_some (cond b (Some object) (finite.get objects (key kinds.Client name)))) other
 
-there-put : (b : Bool) (object : Doc) (found : Option Doc) → is_some found ≡ true → is_some (cond b (Some object) found) ≡ true
-there-put true object found there = refl
-there-put false object found there = there
+other_left : (objects : Objects) (k : Key) (name : List ℕ) → eq_by_cmp key_cmp (key kinds.Client name) k ≡ false → has (finite.remove objects k) kinds.Client name ≡ has objects kinds.Client name
+other_left objects k name other = ap is_some (left-at objects k (key kinds.Client name)) ∙ ap (λ b. is_some (cond b None (finite.get objects (key kinds.Client name)))) other
 
--- what was there is there
-has-put : (objects : Objects) (k : Key) (object : Doc) (kind : Kind) (name : List ℕ) → has objects kind name ≡ true → has (finite.insert objects k object) kind name ≡ true
-has-put objects k object kind name there =
-    ap is_some (get-put objects k object (key kind name)) ∙ there-put (eq_by_cmp key_cmp (key kind name) k) object (finite.get objects (key kind name)) there
+put_or : (b : Bool) (object : Doc) (found : Option Doc) → is_some (cond b (Some object) found) ≡ (b || is_some found)
+put_or true object found = refl
+put_or false object found = refl
 
-bags-put : (objects : Objects) (k : Key) (object : Doc) (b : Bool) (bag id : List ℕ) → Conditions objects → (key Item (item_name bag id) ≡ k → has objects Bag bag ≡ true) → is_name bag ≡ true
-    → eq_by_cmp key_cmp (key Item (item_name bag id)) k ≡ b → is_some (cond b (Some object) (finite.get objects (key Item (item_name bag id)))) ≡ true → has objects Bag bag ≡ true
-bags-put objects k object true bag id meets own named same is = own (same_keys _ _ same)
-bags-put objects k object false bag id meets own named same is = meets.bags bag id named is
+left_and : (b : Bool) (found : Option Doc) → is_some (cond b None found) ≡ (not b && is_some found)
+left_and true found = refl
+left_and false found = refl
 
--- what is stored of its kind is put in; of an item the bag is there
-pub keeps_put : (objects : Objects) (k : Key) (object : Doc) → Conditions objects → IsStored k.kind k.name object
-    → ((bag id : List ℕ) → is_name bag ≡ true → key Item (item_name bag id) ≡ k → has objects Bag bag ≡ true) → Conditions (finite.insert objects k object)
-keeps_put objects k object meets this own = record {
-  stored = λ q d is. stored-put objects k object _ q d meets this refl (sym (get-put objects k object q) ∙ is);
-  bags = λ bag id named is. has-put objects k object Bag bag (bags-put objects k object _ bag id meets (own bag id named) named refl (sym (ap is_some (get-put objects k object (key Item (item_name bag id)))) ∙ is));
-  default_environment = has-put objects k object Environment (codes "_default") meets.default_environment;
-}
+client_put : (o : Organisation) (name : List ℕ) (object : Doc) (q : List ℕ) → HasItsClients o
+    → membership.has (with_client name o.membership) member.Client q ≡ has (finite.insert o.objects (key kinds.Client name) object) kinds.Client q
+client_put o name object q clients =
+    contains-put o.membership.clients name q
+    ∙ (λ i. sym (key_named kinds.Client q name _ _ refl refl) i || clients q i)
+    ∙ sym (put_or (eq_by_cmp key_cmp (key kinds.Client q) (key kinds.Client name)) object (finite.get o.objects (key kinds.Client q)))
+    ∙ sym (ap is_some (put-at o.objects (key kinds.Client name) object (key kinds.Client q)))
 
--- ---- an object is taken out
+client_left : (o : Organisation) (name : List ℕ) (q : List ℕ) → HasItsClients o
+    → set.contains (set.remove o.membership.clients name) q ≡ has (finite.remove o.objects (key kinds.Client name)) kinds.Client q
+client_left o name q clients =
+    contains-left o.membership.clients name q
+    ∙ (λ i. not (sym (key_named kinds.Client q name _ _ refl refl) i) && clients q i)
+    ∙ sym (left_and (eq_by_cmp key_cmp (key kinds.Client q) (key kinds.Client name)) (finite.get o.objects (key kinds.Client q)))
+    ∙ sym (ap is_some (left-at o.objects (key kinds.Client name) (key kinds.Client q)))
 
-found-left : (b : Bool) (found : Option Doc) (d : Doc) → cond b None found ≡ Some d → found ≡ Some d
-found-left true found d is = cc
-found-left false found d is = is
+-- ---- an object comes with its list
 
-had-left : (b : Bool) (found : Option Doc) → is_some (cond b None found) ≡ true → (b ≡ false) × (is_some found ≡ true)
-had-left true found is = cc
-had-left false found is = (refl, is)
+-- the key is of a kind whose objects have lists of their own, and no client's
+pub record IsListedKey (k : Key) : Type 0 where
+  pub own : has_own_list k.kind ≡ true
+  pub no_client : (name : List ℕ) → eq_by_cmp key_cmp (key kinds.Client name) k ≡ false
+  pub no_item : (name : List ℕ) → key kinds.Item name ≡ k → ⊥
 
--- what is there was there, and isn't what was taken out
-had : (objects : Objects) (k : Key) (kind : Kind) (name : List ℕ) → has (finite.remove objects k) kind name ≡ true → (eq_by_cmp key_cmp (key kind name) k ≡ false) × (has objects kind name ≡ true)
-had objects k kind name is = had-left _ _ (sym (ap is_some (get-left objects k (key kind name))) ∙ is)
+pub create_keeps : (o : Organisation) (k : Key) (object : Doc) (list : Acl) → MeetsConditions (Some o) → IsListedKey k → IsStored k.kind k.name object → NamesKnown o.membership list
+    → MeetsConditions (after_moves (Put k object ∷ PutList k list ∷ []) (Some o))
+create_keeps o k object list (objects, (access, clients)) listed this known =
+    (keeps_put o.objects k object objects this (λ bag id named same. absurd (listed.no_item (item_name bag id) same)),
+    (put_with_list o k object list access listed.own known,
+    λ name. clients name ∙ sym (other_put o.objects k object name (listed.no_client name))))
 
--- what is another is still there
-has-left : (objects : Objects) (k : Key) (kind : Kind) (name : List ℕ) → eq_by_cmp key_cmp (key kind name) k ≡ false → has objects kind name ≡ true → has (finite.remove objects k) kind name ≡ true
-has-left objects k kind name other there = ap is_some (get-left objects k (key kind name) ∙ ap (λ b. cond b None (finite.get objects (key kind name))) other) ∙ there
+no_client_item : (name item : List ℕ) → key kinds.Item item ≡ key kinds.Client name → ⊥
+no_client_item name item same = cc (ap (λ (k : Key). k.kind) same)
 
-stored-left : (objects : Objects) (k q : Key) (d : Doc) → Conditions objects → finite.get (finite.remove objects k) q ≡ Some d → IsStored q.kind q.name d
-stored-left objects k q d meets is = meets.stored q d (found-left _ _ d (sym (get-left objects k q) ∙ is))
+-- a client comes with its list, and joins a group
+pub create_client_keeps : (o : Organisation) (group name : List ℕ) (object : Doc) (list : Acl) → MeetsConditions (Some o) → IsStored kinds.Client name object → is_name name ≡ true
+    → membership.is_actor o.membership name ≡ false → NamesKnown o.membership list
+    → MeetsConditions (after_moves (AddClient (record { name = name; group = group }) ∷ Put (key kinds.Client name) object ∷ PutList (key kinds.Client name) list ∷ []) (Some o))
+create_client_keeps o group name object list (objects, (access, clients)) this form free known =
+    let new : Membership = joins group member.Client name (with_client name o.membership) in
+    (keeps_put o.objects (key kinds.Client name) object objects this (λ bag id named same. absurd (no_client_item name (item_name bag id) same)),
+    (put_with_list _ (key kinds.Client name) object list (lemmas.client_comes o group name access free form) refl
+        (known_grows member.Client name o.membership new list (comes_client group name o.membership) known),
+    λ q. client_put o name object q clients))
 
--- what is no bag, and not the environment `_default`, is taken out
-pub keeps_take_out : (objects : Objects) (k : Key) → Conditions objects → ((bag : List ℕ) → eq_by_cmp key_cmp (key Bag bag) k ≡ false)
-    → eq_by_cmp key_cmp (key Environment (codes "_default")) k ≡ false → Conditions (finite.remove objects k)
-keeps_take_out objects k meets no_bag no_default = record {
-  stored = λ q d is. stored-left objects k q d meets is;
-  bags = λ bag id named is. has-left objects k Bag bag (no_bag bag) (meets.bags bag id named (had objects k Item (item_name bag id) is).1);
-  default_environment = has-left objects k Environment (codes "_default") no_default meets.default_environment;
-}
+-- ---- an object takes the place of one
 
--- a bag without items is taken out
-pub keeps_bag_out : (objects : Objects) (bag : List ℕ) → Conditions objects → ((id : List ℕ) → has objects Item (item_name bag id) ≡ true → ⊥) → Conditions (finite.remove objects (key Bag bag))
-keeps_bag_out objects bag meets empty = record {
-  stored = λ q d is. stored-left objects (key Bag bag) q d meets is;
-  bags = λ other id named is.
-      let there = (had objects (key Bag bag) Item (item_name other id) is).1 in
-      elim (eq_by_cmp key_cmp (key Bag other) (key Bag bag)) as (λ b. eq_by_cmp key_cmp (key Bag other) (key Bag bag) ≡ b → has (finite.remove objects (key Bag bag)) Bag other ≡ true) [
-        | true ↦ λ same. absurd (empty id (subst (λ (n : List ℕ). has objects Item (item_name n id) ≡ true) (ap (λ (k : Key). k.name) (same_keys (key Bag other) (key Bag bag) same)) there))
-        | false ↦ λ apart. has-left objects (key Bag bag) Bag other apart (meets.bags other id named there)
-      ] refl;
-  default_environment = has-left objects (key Bag bag) Environment (codes "_default") refl meets.default_environment;
-}
+same_there : (objects : Objects) (k : Key) (object : Doc) (q : Key) (b : Bool) → is_some (finite.get objects k) ≡ true → eq_by_cmp key_cmp q k ≡ b
+    → is_some (cond b (Some object) (finite.get objects q)) ≡ is_some (finite.get objects q)
+same_there objects k object q true there same = sym there ∙ ap (λ (x : Key). is_some (finite.get objects x)) (sym (same_keys q k same))
+same_there objects k object q false there other = refl
+
+put_same : (objects : Objects) (k : Key) (object : Doc) (q : Key) → is_some (finite.get objects k) ≡ true → is_some (finite.get (finite.insert objects k object) q) ≡ is_some (finite.get objects q)
+put_same objects k object q there = ap is_some (put-at objects k object q) ∙ same_there objects k object q (eq_by_cmp key_cmp q k) there refl
+
+pub replace_keeps : (o : Organisation) (k : Key) (object : Doc) → MeetsConditions (Some o) → is_some (finite.get o.objects k) ≡ true → IsStored k.kind k.name object
+    → ((bag id : List ℕ) → is_name bag ≡ true → key kinds.Item (item_name bag id) ≡ k → has o.objects kinds.Bag bag ≡ true)
+    → MeetsConditions (after_moves (Put k object ∷ []) (Some o))
+replace_keeps o k object (objects, (access, clients)) there this own =
+    (keeps_put o.objects k object objects this own,
+    (objects_alone o (finite.insert o.objects k object) access (λ q listed. put_same o.objects k object q there),
+    λ name. clients name ∙ sym (put_same o.objects k object (key kinds.Client name) there)))
+
+-- an item's key is that of no object with a list
+other_than_item : (q : Key) (name : List ℕ) → has_own_list q.kind ≡ true → eq_by_cmp key_cmp q (key kinds.Item name) ≡ false
+other_than_item q name own =
+    elim (eq_by_cmp key_cmp q (key kinds.Item name)) as (λ b. eq_by_cmp key_cmp q (key kinds.Item name) ≡ b → b ≡ false) [
+      | true ↦ λ same. cc (subst (λ (k : Key). has_own_list k.kind ≡ true) (same_keys q (key kinds.Item name) same) own)
+      | false ↦ λ other. refl
+    ] refl
+
+-- an item is put in whose bag is there
+pub put_item_keeps : (o : Organisation) (name : List ℕ) (item : Doc) → MeetsConditions (Some o) → IsStored kinds.Item name item
+    → ((bag id : List ℕ) → is_name bag ≡ true → key kinds.Item (item_name bag id) ≡ key kinds.Item name → has o.objects kinds.Bag bag ≡ true)
+    → MeetsConditions (after_moves (Put (key kinds.Item name) item ∷ []) (Some o))
+put_item_keeps o name item (objects, (access, clients)) this own =
+    (keeps_put o.objects (key kinds.Item name) item objects this own,
+    (objects_alone o (finite.insert o.objects (key kinds.Item name) item) access
+        (λ q listed. ap is_some (put-at o.objects (key kinds.Item name) item q) ∙ ap (λ b. is_some (cond b (Some item) (finite.get o.objects q))) (other_than_item q name listed)),
+    λ client. clients client ∙ sym (other_put o.objects (key kinds.Item name) item client refl)))
+
+-- ---- an object goes with its list
+
+pub remove_keeps : (o : Organisation) (k : Key) → MeetsConditions (Some o) → IsListedKey k → ((bag : List ℕ) → eq_by_cmp key_cmp (key kinds.Bag bag) k ≡ false)
+    → eq_by_cmp key_cmp (key kinds.Environment (codes "_default")) k ≡ false → MeetsConditions (after_moves (TakeOut k ∷ TakeList k ∷ []) (Some o))
+remove_keeps o k (objects, (access, clients)) listed no_bag no_default =
+    (keeps_take_out o.objects k objects no_bag no_default,
+    (take_with_list o k access listed.own,
+    λ name. clients name ∙ sym (other_left o.objects k name (listed.no_client name))))
+
+-- a client goes with its list, out of every group and every list
+pub remove_client_keeps : (o : Organisation) (name : List ℕ) → MeetsConditions (Some o)
+    → MeetsConditions (after_moves (TakeOut (key kinds.Client name) ∷ TakeList (key kinds.Client name) ∷ RemoveClient name ∷ []) (Some o))
+remove_client_keeps o name (objects, (access, clients)) =
+    (keeps_take_out o.objects (key kinds.Client name) objects (λ bag. refl) refl,
+    (lemmas.client_goes _ name (take_with_list o (key kinds.Client name) access refl),
+    λ q. client_left o name q clients))
+
+pub remove_item_keeps : (o : Organisation) (name : List ℕ) → MeetsConditions (Some o) → MeetsConditions (after_moves (TakeOut (key kinds.Item name) ∷ []) (Some o))
+remove_item_keeps o name (objects, (access, clients)) =
+    (keeps_take_out o.objects (key kinds.Item name) objects (λ bag. refl) refl,
+    (objects_alone o (finite.remove o.objects (key kinds.Item name)) access
+        (λ q listed. ap is_some (left-at o.objects (key kinds.Item name) q) ∙ ap (λ b. is_some (cond b None (finite.get o.objects q))) (other_than_item q name listed)),
+    λ client. clients client ∙ sym (other_left o.objects (key kinds.Item name) client refl)))
 
 -- ---- a bag goes with its items
 
--- the objects without these items of a bag
-abbrev pub without_items : List ℕ → List (List ℕ) → Objects → Objects
-without_items bag [] objects = objects
-without_items bag (id ∷ ids) objects = without_items bag ids (finite.remove objects (key Item (item_name bag id)))
+same_without : (bag : List ℕ) (ids : List (List ℕ)) (objects : Objects) (q : Key) → has_own_list q.kind ≡ true → is_some (finite.get (without_items bag ids objects) q) ≡ is_some (finite.get objects q)
+same_without bag [] objects q own = refl
+same_without bag (id ∷ ids) objects q own =
+    same_without bag ids (finite.remove objects (key kinds.Item (item_name bag id))) q own
+    ∙ ap is_some (left-at objects (key kinds.Item (item_name bag id)) q)
+    ∙ ap (λ b. is_some (cond b None (finite.get objects q))) (other_than_item q (item_name bag id) own)
 
-pub keeps_items_out : (bag : List ℕ) (ids : List (List ℕ)) (objects : Objects) → Conditions objects → Conditions (without_items bag ids objects)
-keeps_items_out bag [] objects meets = meets
-keeps_items_out bag (id ∷ ids) objects meets = keeps_items_out bag ids _ (keeps_take_out objects (key Item (item_name bag id)) meets (λ other. refl) refl)
+pub remove_bag_keeps : (state : State) (bag : List ℕ) → MeetsConditions state
+    → MeetsConditions (after_moves (map (λ (id : List ℕ). TakeOut (key kinds.Item (item_name bag id))) (ids_in bag (objects_of state)) ++ TakeOut (key kinds.Bag bag) ∷ TakeList (key kinds.Bag bag) ∷ []) state)
+remove_bag_keeps None bag meets = subst MeetsConditions (sym (nobody_taken_out bag (ids_in bag finite.empty))) tt
+remove_bag_keeps (Some o) bag (objects, (access, clients)) =
+    let left : Objects = without_items bag (ids_in bag o.objects) o.objects in
+    subst MeetsConditions (sym (items_taken_out bag (ids_in bag o.objects) (TakeOut (key kinds.Bag bag) ∷ TakeList (key kinds.Bag bag) ∷ []) o))
+    (keeps_bag_removal bag o.objects objects,
+    (take_with_list (with_objects left o) (key kinds.Bag bag) (objects_alone o left access (λ q own. same_without bag (ids_in bag o.objects) o.objects q own)) refl,
+    λ name. clients name ∙ sym (other_left left (key kinds.Bag bag) name refl ∙ same_without bag (ids_in bag o.objects) o.objects (key kinds.Client name) refl)))
 
-unlike : (bag : List ℕ) (id other : List ℕ) (b : Bool) → bytes_eq id other ≡ b → eq_by_cmp key_cmp (key Item (item_name bag id)) (key Item (item_name bag other)) ≡ false → b ≡ false
-unlike bag id other false is apart = refl
-unlike bag id other true is apart =
-    let same : id ≡ other = (bytes_decides id other).0 is in
-    let tie : eq_by_cmp key_cmp (key Item (item_name bag id)) (key Item (item_name bag id)) ≡ true = ties_itself (key Item (item_name bag id)) in
-    cc (subst (λ (n : List ℕ). eq_by_cmp key_cmp (key Item (item_name bag id)) (key Item (item_name bag n)) ≡ false) (sym same) apart)
+-- ---- lists, users and groups
 
--- an item that is left was there, and isn't one of those
-still : (bag : List ℕ) (ids : List (List ℕ)) (objects : Objects) (id : List ℕ) → has (without_items bag ids objects) Item (item_name bag id) ≡ true
-    → (has objects Item (item_name bag id) ≡ true) × (list_any (bytes_eq id) ids ≡ false)
-still bag [] objects id is = (is, refl)
-still bag (x ∷ ids) objects id is =
-    let rest = still bag ids (finite.remove objects (key Item (item_name bag x))) id is in
-    let before = had objects (key Item (item_name bag x)) Item (item_name bag id) rest.0 in
-    (before.1, rw (unlike bag id x _ refl before.0) rest.1)
+pub put_list_keeps : (o : Organisation) (k : Key) (list : Acl) → MeetsConditions (Some o) → is_some (finite.get o.lists k) ≡ true → NamesKnown o.membership list
+    → MeetsConditions (after_moves (PutList k list ∷ []) (Some o))
+put_list_keeps o k list (objects, (access, clients)) there known = (objects, (put_list o k list access there known, clients))
 
--- ---- the ids of a bag's items are all of them
+pub create_user_keeps : (o : Organisation) (group name : List ℕ) → MeetsConditions (Some o) → membership.is_actor o.membership name ≡ false → is_name name ≡ true
+    → MeetsConditions (after_moves (AddUser (record { name = name; group = group }) ∷ []) (Some o))
+create_user_keeps o group name (objects, (access, clients)) free form = (objects, (lemmas.user_comes o group name access free form, clients))
 
-or_rest : (a b : Bool) → b ≡ true → (a || b) ≡ true
-or_rest true b is = refl
-or_rest false b is = is
+pub remove_user_keeps : (o : Organisation) (name : List ℕ) → MeetsConditions (Some o) → MeetsConditions (after_moves (RemoveUser name ∷ []) (Some o))
+remove_user_keeps o name (objects, (access, clients)) = (objects, (lemmas.user_goes o name access, clients))
 
-any_rest : (id : List ℕ) (first : Option (List ℕ)) (rest : List (List ℕ)) → list_any (bytes_eq id) rest ≡ true → list_any (bytes_eq id) (cons_option first rest) ≡ true
-any_rest id None rest is = is
-any_rest id (Some x) rest is = or_rest (bytes_eq id x) (list_any (bytes_eq id) rest) is
+pub create_group_keeps : (o : Organisation) (name : List ℕ) (list : Acl) → MeetsConditions (Some o) → NamesKnown o.membership list → is_name name ≡ true
+    → MeetsConditions (after_moves (PutGroup name no_members ∷ PutList (key kinds.Group name) list ∷ []) (Some o))
+create_group_keeps o name list (objects, (access, clients)) known form = (objects, (lemmas.group_comes o name list access known form, clients))
 
-any_first : (id : List ℕ) (rest : List (List ℕ)) → list_any (bytes_eq id) (id ∷ rest) ≡ true
-any_first id rest = ap (λ b. b || list_any (bytes_eq id) rest) ((bytes_decides id id).1 refl)
+pub replace_group_keeps : (o : Organisation) (name : List ℕ) (members : Members) → MeetsConditions (Some o) → membership.has o.membership member.Group name ≡ true
+    → ((k : MemberKind) (q : List ℕ) → has_member k q members ≡ true → membership.has o.membership k q ≡ true) → MeetsConditions (after_moves (PutGroup name members ∷ []) (Some o))
+replace_group_keeps o name members (objects, (access, clients)) there known = (objects, (lemmas.group_changes o name members access there known, clients))
 
--- the ids of the items among these keys, of which one key may be another's
-abbrev pub ids_among : List ℕ → List Key → List (List ℕ)
-ids_among bag keys = filter_map (behind_front (item_front bag)) (names_of Item keys)
+pub remove_group_keeps : (o : Organisation) (name : List ℕ) → MeetsConditions (Some o) → is_starting_group name ≡ false
+    → MeetsConditions (after_moves (TakeList (key kinds.Group name) ∷ RemoveGroup name ∷ []) (Some o))
+remove_group_keeps o name (objects, (access, clients)) free = (objects, (lemmas.group_goes o name access free, clients))
 
-ids_rest : (bag id : List ℕ) (k : Key) (ks : List Key) (b : Bool) → is_of Item k ≡ b → list_any (bytes_eq id) (ids_among bag ks) ≡ true → list_any (bytes_eq id) (ids_among bag (k ∷ ks)) ≡ true
-ids_rest bag id k ks true is rest = rw is (any_rest id (behind_front (item_front bag) k.name) (ids_among bag ks) rest)
-ids_rest bag id k ks false is rest = rw is rest
+-- ---- a new organisation
 
-ids_first : (bag id : List ℕ) (ks : List Key) → list_any (bytes_eq id) (ids_among bag (key Item (item_name bag id) ∷ ks)) ≡ true
-ids_first bag id ks = rw (behind_front-joined (item_front bag) id) (any_first id (ids_among bag ks))
-
-ids_all : (bag id : List ℕ) (ks : List Key) → list_any (eq_by_cmp key_cmp (key Item (item_name bag id))) ks ≡ true → list_any (bytes_eq id) (ids_among bag ks) ≡ true
-ids_all bag id [] is = cc
-ids_all bag id (k ∷ ks) is =
-    elim (eq_by_cmp key_cmp (key Item (item_name bag id)) k) as (λ b. eq_by_cmp key_cmp (key Item (item_name bag id)) k ≡ b → (b || list_any (eq_by_cmp key_cmp (key Item (item_name bag id))) ks) ≡ true
-    → list_any (bytes_eq id) (ids_among bag (k ∷ ks)) ≡ true) [
-      | true ↦ λ same is. subst (λ (x : Key). list_any (bytes_eq id) (ids_among bag (x ∷ ks)) ≡ true) (same_keys (key Item (item_name bag id)) k same) (ids_first bag id ks)
-      | false ↦ λ other is. ids_rest bag id k ks _ refl (ids_all bag id ks is)
-    ] refl is
-
--- an item that is there is among them
-ids_are_all : (bag id : List ℕ) (objects : Objects) → has objects Item (item_name bag id) ≡ true → list_any (bytes_eq id) (ids_in bag objects) ≡ true
-ids_are_all bag id objects there = ids_all bag id (finite.keys objects) (sym (finite.contains_key-keys objects (key Item (item_name bag id))) ∙ there)
-
--- a bag goes with all its items
-pub keeps_bag_removal : (bag : List ℕ) (objects : Objects) → Conditions objects → Conditions (finite.remove (without_items bag (ids_in bag objects) objects) (key Bag bag))
-keeps_bag_removal bag objects meets =
-    keeps_bag_out _ bag (keeps_items_out bag (ids_in bag objects) objects meets)
-    (λ id there.
-    let left = still bag (ids_in bag objects) objects id there in
-    let listed = ids_are_all bag id objects left.0 in
-    cc (sym listed ∙ left.1))
-
--- the moves that take out items, and then others
-pub items_taken_out : (bag : List ℕ) (ids : List (List ℕ)) (rest : List Move) (o : Organisation)
-    → after_moves (map (λ (id : List ℕ). TakeOut (key Item (item_name bag id))) ids ++ rest) (Some o) ≡ after_moves rest (Some (with_objects (without_items bag ids o.objects) o))
-items_taken_out bag [] rest o = refl
-items_taken_out bag (id ∷ ids) rest o = items_taken_out bag ids rest (with_objects (finite.remove o.objects (key Item (item_name bag id))) o)
-
--- nobody stays nobody
-pub nobody_taken_out : (bag : List ℕ) (ids : List (List ℕ)) → after_moves (map (λ (id : List ℕ). TakeOut (key Item (item_name bag id))) ids ++ TakeOut (key Bag bag) ∷ TakeList (key Bag bag) ∷ []) None ≡ None
-nobody_taken_out bag [] = refl
-nobody_taken_out bag (id ∷ ids) = nobody_taken_out bag ids
-
--- ---- an item's name tells its bag
-
-name_tells : (bag other x y : List ℕ) → list_all is_name_byte bag ≡ true → list_all is_name_byte other ≡ true → bag ++ (47 ∷ x) ≡ other ++ (47 ∷ y) → bag ≡ other
-name_tells [] [] x y one two same = refl
-name_tells [] (c ∷ other) x y one two same =
-    let slash : 47 ≡ c = cc same in
-    cc (subst (λ (b : ℕ). is_name_byte b ≡ true) (sym slash) (and_parts _ _ two).0)
-name_tells (c ∷ bag) [] x y one two same =
-    let slash : c ≡ 47 = cc same in
-    cc (subst (λ (b : ℕ). is_name_byte b ≡ true) slash (and_parts _ _ one).0)
-name_tells (c ∷ bag) (d ∷ other) x y one two same =
-    let first : c ≡ d = cc same in
-    let rest : bag ++ (47 ∷ x) ≡ other ++ (47 ∷ y) = cc same in
-    let tail : bag ≡ other = name_tells bag other x y (and_parts _ _ one).1 (and_parts _ _ two).1 rest in
-    cc
-
-pub name_bytes : (name : List ℕ) → is_name name ≡ true → list_all is_name_byte name ≡ true
-name_bytes name named = (and_parts _ _ named).1
-
--- items of one name are of one bag
-pub one_bag : (bag id other other_id : List ℕ) → is_name bag ≡ true → is_name other ≡ true → item_name bag id ≡ item_name other other_id → bag ≡ other
-one_bag bag id other other_id named other_named same =
-    name_tells bag other id other_id (name_bytes bag named) (name_bytes other other_named)
-    (sym (append_assoc bag (codes "/") id) ∙ same ∙ append_assoc other (codes "/") other_id)
-
--- ---- the first object of an organisation
-
-stored-first : (k : Key) (object : Doc) (b : Bool) (q : Key) (d : Doc) → IsStored k.kind k.name object → eq_by_cmp key_cmp q k ≡ b → cond b (Some object) None ≡ Some d → IsStored q.kind q.name d
-stored-first k object true q d this same is =
-    subst (λ (x : Key). IsStored x.kind x.name d) (sym (same_keys q k same)) (subst (λ (x : Doc). IsStored k.kind k.name x) (same_Some object d is) this)
-stored-first k object false q d this same is = cc
-
--- no objects
-abbrev no_objects : Objects
-no_objects = finite.empty
-
-get-first : (k : Key) (object : Doc) (q : Key) → finite.get (finite.insert no_objects k object) q ≡ cond (eq_by_cmp key_cmp q k) (Some object) None
-get-first k object q = get-put no_objects k object q ∙ ap (cond (eq_by_cmp key_cmp q k) (Some object)) (finite.get-empty key_cmp q)
-
--- an organisation begins with the environment `_default`
-pub keeps_first : (object : Doc) → IsStored Environment (codes "_default") object → Conditions (finite.insert finite.empty (key Environment (codes "_default")) object)
-keeps_first object this = record {
-  stored = λ q d is. stored-first (key Environment (codes "_default")) object _ q d this refl (sym (get-first (key Environment (codes "_default")) object q) ∙ is);
-  bags = λ bag id named is. cc (sym (ap is_some (get-first (key Environment (codes "_default")) object (key Item (item_name bag id)))) ∙ is);
-  default_environment = ap is_some (get-first (key Environment (codes "_default")) object (key Environment (codes "_default")));
-}
-
--- ---- the same of states
-
-pub put_keeps : (state : State) (k : Key) (object : Doc) → MeetsConditions state → IsStored k.kind k.name object
-    → ((bag id : List ℕ) → is_name bag ≡ true → key Item (item_name bag id) ≡ k → has_object state Bag bag ≡ true) → MeetsConditions (after_moves (Put k object ∷ []) state)
-put_keeps None k object meets this own = tt
-put_keeps (Some organisation) k object meets this own = keeps_put organisation.objects k object meets this own
-
-pub take_out_keeps : (state : State) (k : Key) → MeetsConditions state → ((bag : List ℕ) → eq_by_cmp key_cmp (key Bag bag) k ≡ false)
-    → eq_by_cmp key_cmp (key Environment (codes "_default")) k ≡ false → MeetsConditions (after_moves (TakeOut k ∷ []) state)
-take_out_keeps None k meets no_bag no_default = tt
-take_out_keeps (Some organisation) k meets no_bag no_default = keeps_take_out organisation.objects k meets no_bag no_default
-
-pub bag_removal_keeps : (state : State) (bag : List ℕ) → MeetsConditions state
-    → MeetsConditions (after_moves (map (λ (id : List ℕ). TakeOut (key Item (item_name bag id))) (ids_in bag (objects_of state)) ++ TakeOut (key Bag bag) ∷ TakeList (key Bag bag) ∷ []) state)
-bag_removal_keeps None bag meets = subst MeetsConditions (sym (nobody_taken_out bag (ids_in bag finite.empty))) tt
-bag_removal_keeps (Some o) bag meets =
-    subst MeetsConditions (sym (items_taken_out bag (ids_in bag o.objects) (TakeOut (key Bag bag) ∷ TakeList (key Bag bag) ∷ []) o)) (keeps_bag_removal bag o.objects meets)
-
--- ---- the objects alone count
-
--- these moves change the objects as one put does
-pub same_objects : (one other : State) → objects_of one ≡ objects_of other → is_some one ≡ is_some other → MeetsConditions one → MeetsConditions other
-same_objects None None same there meets = tt
-same_objects None (Some o) same there meets = cc
-same_objects (Some o) None same there meets = tt
-same_objects (Some o) (Some p) same there meets = subst Conditions same meets
+pub start_keeps : (default : Doc) → IsStored kinds.Environment (codes "_default") default → MeetsConditions (Some (started default))
+start_keeps default this = (keeps_first default this, (starts default, starts_without_clients default))

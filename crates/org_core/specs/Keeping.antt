@@ -1,9 +1,10 @@
 -- What leads from a state that meets the conditions to one that does.
-use Rattle.std.specs.Prelude.{◌≡◌, false, None, Ok}
+use Rattle.std.specs.Prelude.{◌≡◌, true, false, None, Ok}
 use Rattle.org_core.specs.declared.requests.Request.{Request}
 use Rattle.org_core.specs.Conditions.{MeetsConditions}
 use Rattle.org_core.specs.Contexts.{Context}
 use Rattle.org_core.specs.Moves.{IsOrderly, after_moves}
+use Rattle.org_core.specs.Needs.{is_known}
 use Rattle.org_core.specs.Outcomes.{Decided, outcome_of}
 use Rattle.org_core.specs.Rules.{Rules}
 use Rattle.org_core.specs.States.{State}
@@ -12,11 +13,19 @@ use Rattle.org_core.specs.States.{State}
 abbrev pub LeadsToConditions : State → Decided → Type 0
 LeadsToConditions state decided = MeetsConditions (after_moves (outcome_of decided.answer).moves state)
 
--- what a group does keeps the conditions: an operation that was read, whose object is there and that the group itself
--- doesn't refuse leads from a state that meets them to one that does
-abbrev pub KeepsConditions : {Route Operation : Type 0} → Rules Route Operation → Type 0
-KeepsConditions {Route} {Operation} rules =
-    (context : Context) (route : Route) (request : Request) (operation : Operation) → MeetsConditions context.state
+-- whoever asks
+abbrev pub Anyone : Context → Type 0
+Anyone context = Unit {0}
+
+-- somebody whom the organisation knows asks
+abbrev pub Someone : Context → Type 0
+Someone context = is_known context ≡ true
+
+-- what a group does for such a caller keeps the conditions: an operation that was read, whose object is there and that
+-- the group itself doesn't refuse leads from a state that meets them to one that does
+abbrev pub KeepsConditions : {Route Operation : Type 0} → (Context → Type 0) → Rules Route Operation → Type 0
+KeepsConditions {Route} {Operation} Asks rules =
+    (context : Context) (route : Route) (request : Request) (operation : Operation) → MeetsConditions context.state → Asks context
     → rules.operation context route request ≡ Ok operation → rules.lacks context operation ≡ false → rules.own_refusal context operation ≡ None
     → LeadsToConditions context.state (rules.does context operation)
 

@@ -13,6 +13,8 @@ pub mod Needs
 pub mod Outcomes
 pub mod Creating
 pub mod Rules
+pub mod ObjectConditions
+pub mod AccessConditions
 pub mod Conditions
 pub mod Keeping
 pub mod Plain

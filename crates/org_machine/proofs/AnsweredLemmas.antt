@@ -23,16 +23,16 @@ not_refused refusal true is = cc
 not_refused refusal false is = refl
 
 module _ {Route Operation : Type 0} where
-  by_operation_keeps : (rules : Rules Route Operation) → KeepsConditions rules → (context : Context) (route : Route) (request : Request) (asked : Result Operation Refusal) → MeetsConditions context.state
+  by_operation_keeps : (Asks : Context → Type 0) (rules : Rules Route Operation) → KeepsConditions Asks rules → (context : Context) (route : Route) (request : Request) (asked : Result Operation Refusal) → MeetsConditions context.state → Asks context
       → rules.operation context route request ≡ asked → LeadsToConditions context.state (by_operation rules context asked)
-  by_operation_keeps rules keeps context route request (Err refusal) meets is = meets
-  by_operation_keeps rules keeps context route request (Ok operation) meets is =
+  by_operation_keeps Asks rules keeps context route request (Err refusal) meets asks is = meets
+  by_operation_keeps Asks rules keeps context route request (Ok operation) meets asks is =
       unless_keeps context.state (refuses NotFound (rules.lacks context operation)) (found rules context operation) meets
       (λ there. unless_keeps context.state (lacking context (rules.needs context operation)) (permitted rules context operation) meets
       (λ _. unless_keeps context.state (rules.own_refusal context operation) (rules.does context operation) meets
-      (λ free. keeps context route request operation meets is (not_refused NotFound (rules.lacks context operation) there) free)))
+      (λ free. keeps context route request operation meets asks is (not_refused NotFound (rules.lacks context operation) there) free)))
 
   -- what is decided at a route of a group that keeps the conditions keeps them
-  pub answered_keeps : (rules : Rules Route Operation) → KeepsConditions rules → (context : Context) (route : Route) (request : Request) → MeetsConditions context.state
+  pub answered_keeps : (Asks : Context → Type 0) (rules : Rules Route Operation) → KeepsConditions Asks rules → (context : Context) (route : Route) (request : Request) → MeetsConditions context.state → Asks context
       → LeadsToConditions context.state (answered_by rules context route request)
-  answered_keeps rules keeps context route request meets = by_operation_keeps rules keeps context route request (rules.operation context route request) meets refl
+  answered_keeps Asks rules keeps context route request meets asks = by_operation_keeps Asks rules keeps context route request (rules.operation context route request) meets asks refl

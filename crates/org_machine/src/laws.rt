@@ -44,7 +44,7 @@ pub fn the_same_in_every_state()
     ensures moves { (request : Request) → org_of request ≡ None → (state : State) → (step request state).moves ≡ [] }
 {}
 
-/// Each step leads from a state that meets the conditions of every organisation's objects to one that
+/// Each step leads from a state that meets the conditions of every organisation's state to one that
 /// meets them. One that isn't there meets them.
 pub fn steps_keep_conditions()
     ensures { (request : Request) (state : State) → MeetsConditions state → MeetsConditions (after_moves (step request state).moves state) }

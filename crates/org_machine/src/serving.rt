@@ -40,7 +40,7 @@ pub fn prepare<L: Ledger>(
     ensures moves { after_moves result.moves (state_in state.old) ≡ after (mark_of result.reply) request.now (state_in state.old) }
     ensures made { ComesWith result.reply.status result.moves }
     ensures room { HasRoom result.moves state.new.objects state.new.groups }
-    // The moves lead to a state that meets the conditions of every organisation's objects.
+    // The moves lead to a state that meets the conditions of every organisation's state.
     ensures conditions { MeetsConditions (after_moves result.moves (state_in state.new)) }
     ensures looks { Looks result.reply request.now (state_in state.old) steps.old steps.new }
 {
