@@ -1,7 +1,7 @@
 -- Where no stranger was found, everyone who is named is there.
-use Rattle.std.proofs.Common.{◌≡◌, ℕ, ◌+◌, List, [], ◌∷◌, length, Bool, true, false, cond, not, nat_lt, ◌||◌, ◌⊎◌, inl, inr, Option, Some, None, option_map, position, bytes_eq, codes, refl, sym, ap, subst, ◌∙◌, arith}
+use Rattle.std.proofs.Common.{◌≡◌, ℕ, ◌+◌, List, [], ◌∷◌, length, Bool, true, false, cond, not, nat_lt, ◌||◌, ◌⊎◌, inl, inr, Option, Some, None, option_map, position, bytes_eq, refl, sym, ap, subst, ◌∙◌, arith}
 use Rattle.std.proofs.lemmas.Bool.{or_parts}
-use Rattle.std.specs.Cmp.Lexicographic.{bytes_decides, nat_list_cmp_total}
+use Rattle.std.specs.Cmp.Lexicographic.{nat_list_cmp_total}
 use Rattle.std.specs.FinSet as set
 use Rattle.std.specs.List.{list_any, position_or_len}
 use Rattle.std.specs.Option.{option_or}
@@ -15,7 +15,7 @@ use Rattle.access_lists.specs.declared.perm.Perm.{Perm}
 use Rattle.access_lists.specs.declared.perm.Perm.TheVariants as permission
 use Rattle.access_lists.specs.Acls.{entry_of}
 use Rattle.access_lists.specs.Lists.{members_of}
-use Rattle.access_lists.specs.Members.{Members, Membership}
+use Rattle.access_lists.specs.Members.{Membership}
 use Rattle.access_lists.specs.Strangers as membership
 use Rattle.access_lists.specs.TextSets.{text_cmp, lists}
 use Rattle.access_lists.proofs.TextSetLemmas.{any-tied}
@@ -29,17 +29,17 @@ use Rattle.access_routes.specs.Groups.{has_stranger, sent, stranger_among, stran
 
 -- ---- the first place at which a test passes
 
-suc_lt : (a b : ℕ) → nat_lt (1 + a) (1 + b) ≡ nat_lt a b
-suc_lt a b = grind arith
+later_lt : (n : ℕ) (x : List ℕ) (xs : List (List ℕ)) → nat_lt (1 + n) (length (x ∷ xs)) ≡ nat_lt n (length xs)
+later_lt n x xs = grind arith
 
-zero_lt : (b : ℕ) → nat_lt 0 (1 + b) ≡ true
-zero_lt b = grind arith
+first_lt : (x : List ℕ) (xs : List (List ℕ)) → nat_lt 0 (length (x ∷ xs)) ≡ true
+first_lt x xs = grind arith
 
 module _ (test : List ℕ → Bool) where
   step_passes : (x : List ℕ) (xs : List (List ℕ)) (b : Bool) → test x ≡ b → (nat_lt (position_or_len test xs) (length xs) ≡ list_any test xs)
       → nat_lt (position_or_len test (x ∷ xs)) (length (x ∷ xs)) ≡ (b || list_any test xs)
-  step_passes x xs true is rest = ap (λ b. nat_lt (cond (not b) (1 + position_or_len test xs) 0) (length (x ∷ xs))) is ∙ zero_lt (length xs)
-  step_passes x xs false is rest = ap (λ b. nat_lt (cond (not b) (1 + position_or_len test xs) 0) (length (x ∷ xs))) is ∙ suc_lt (position_or_len test xs) (length xs) ∙ rest
+  step_passes x xs true is rest = ap (λ b. nat_lt (cond (not b) (1 + position_or_len test xs) 0) (length (x ∷ xs))) is ∙ first_lt x xs
+  step_passes x xs false is rest = ap (λ b. nat_lt (cond (not b) (1 + position_or_len test xs) 0) (length (x ∷ xs))) is ∙ later_lt (position_or_len test xs) x xs ∙ rest
 
   -- there is a first place where it passes at some
   passes : (xs : List (List ℕ)) → nat_lt (position_or_len test xs) (length xs) ≡ list_any test xs
@@ -74,11 +74,11 @@ not_told None is = refl
 not_told (Some (stranger.Actor position)) is = cc
 not_told (Some (stranger.Group position)) is = cc
 
-module _ {X Y : Type 0} where
-  none_mapped : (f : X → Y) (found : Option X) → option_map f found ≡ None → found ≡ None
-  none_mapped f None is = refl
-  none_mapped f (Some x) is = cc
+none_mapped : {X Y : Type 0} (f : X → Y) (found : Option X) → option_map f found ≡ None → found ≡ None
+none_mapped f None is = refl
+none_mapped f (Some x) is = cc
 
+module _ {X : Type 0} where
   neither_found : (one other : Option X) → option_or one other ≡ None → (one ≡ None) × (other ≡ None)
   neither_found None other is = (refl, is)
   neither_found (Some x) other is = cc

@@ -1,19 +1,18 @@
 -- What these groups do keeps the conditions of an organisation's state.
-use Rattle.std.proofs.Common.{◌≡◌, ℕ, List, [], ◌∷◌, Bool, true, false, cond, not, ◌&&◌, IsTrue, IsFalse, IfSome, Option, Some, None, is_some, option_and_then, Result, Ok, Err, bytes_eq, codes, refl, sym, ap, subst, ◌∙◌}
+use Rattle.std.proofs.Common.{◌≡◌, ℕ, List, [], ◌∷◌, Bool, true, false, not, ◌&&◌, IsTrue, IsFalse, IfSome, Option, Some, None, is_some, option_and_then, Result, Ok, Err, bytes_eq, codes, refl, sym, ap, subst, ◌∙◌}
 use Rattle.std.proofs.lemmas.Bool.{and_parts, or_parts}
 use Rattle.access_lists.specs.declared.starting.Container.TheVariants as container
 use Rattle.access_lists.specs.Strangers.{is_actor}
-use Rattle.std.proofs.lemmas.Option.{same_Some}
 use Rattle.std.specs.Cmp.Lexicographic.{bytes_decides}
 use Rattle.std.specs.Ordering.{eq_by_cmp}
-use Rattle.doc_tree.specs.Doc.{Doc, null, boolean, whole, words, list, dict}
+use Rattle.doc_tree.specs.Doc.{Doc}
 use Rattle.doc_tree.specs.Name.{is_name}
 use Rattle.doc_tree.specs.Part.{part_at}
 use Rattle.doc_tree.specs.declared.kind.Kind.{Kind}
 use Rattle.doc_tree.specs.declared.kind.Kind.TheVariants as kinds
 use Rattle.object_forms.specs.Forms.{name_from}
 use Rattle.object_forms.specs.Kinds.{is_item}
-use Rattle.object_forms.specs.Objects.{object_from, key_of, name_in}
+use Rattle.object_forms.specs.Objects.{key_of, name_in}
 use Rattle.object_forms.proofs.ReadBackLemmas.{reads_back}
 use Rattle.object_forms.proofs.StoredLemmas.{named_from, id_from}
 use Rattle.object_store.specs.Items.{item_name}
@@ -21,14 +20,11 @@ use Rattle.object_store.specs.Objects.{key, key_cmp}
 use Rattle.object_store.specs.declared.key.Key.{Key}
 use Rattle.route_table.specs.declared.verbs.Verb.{Verb}
 use Rattle.route_table.specs.declared.verbs.Verb.TheVariants.{Get, Post, Put, Delete, Other}
-use Rattle.org_core.specs.Bodies.{document_in}
 use Rattle.org_core.specs.Collections.{kind_in}
 use Rattle.org_core.specs.Contexts.{Context}
-use Rattle.org_core.specs.Creating.{with_list}
 use Rattle.org_core.specs.Conditions.{MeetsConditions}
 use Rattle.org_core.specs.Keeping.{Anyone, Someone, LeadsToConditions, KeepsConditions}
 use Rattle.org_core.specs.Moves.{after_moves}
-use Rattle.org_core.specs.Named.{text_of}
 use Rattle.org_core.specs.Needs.{if_named}
 use Rattle.org_core.specs.ObjectConditions.{has, IsNamed, IsItem, IsStored}
 use Rattle.org_core.specs.Refusals.{refuses}
@@ -47,7 +43,7 @@ use Rattle.org_core.proofs.ConditionsLemmas.{IsListedKey, created_known, create_
 use Rattle.org_core.proofs.AccessConditionsLemmas.{has_own_list}
 use Rattle.org_core.proofs.ReadLemmas.{IsRead, read_body, some_named, text_named}
 use Rattle.org_core.proofs.ObjectConditionsLemmas.{same_keys, one_bag}
-use Rattle.org_core.specs.Bodies.{or_bad_field, object_said, object_in_body}
+use Rattle.org_core.specs.Bodies.{object_in_body}
 use Rattle.object_routes.specs.DataBags.{data_rules, data_asked, post_item, put_item, id_of, lacks_bag, lacks_item}
 use Rattle.object_routes.specs.Objects.{objects_rules, objects_asked, name_of, put_one, is_fixed, is_taken, lacks_named, creation, removal}
 use Rattle.object_routes.specs.Operations.{creating, replacing, creating_bag, creating_item, replacing_item}

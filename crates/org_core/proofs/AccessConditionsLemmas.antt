@@ -1,11 +1,10 @@
 -- Changes that keep the conditions of an organisation's access lists, users, clients and groups.
-use Rattle.std.proofs.Common.{◌≡◌, ℕ, List, [], ◌∷◌, ◌++◌, Bool, true, false, cond, not, ◌&&◌, ◌||◌, ◌⊎◌, inl, inr, Option, Some, None, is_some, option_map, codes, bytes_eq, refl, sym, ap, subst, ◌∙◌}
+use Rattle.std.proofs.Common.{◌≡◌, ℕ, List, [], ◌∷◌, ◌++◌, Bool, true, false, cond, not, ◌&&◌, ◌||◌, ◌⊎◌, inl, inr, Option, Some, None, is_some, option_map, bytes_eq, refl, sym, ap, subst, ◌∙◌}
 use Rattle.std.proofs.lemmas.Bool.{and_parts, or_parts, or_left, or_right}
 use Rattle.std.proofs.lemmas.Option.{same_Some}
 use Rattle.std.specs.Cmp.Lexicographic.{bytes_decides, nat_list_cmp_total}
 use Rattle.std.specs.FinMap as finite
 use Rattle.std.specs.FinSet as set
-use Rattle.std.specs.List.{list_any, filter}
 use Rattle.std.specs.Option.{option_map_or}
 use Rattle.std.specs.Ordering.{eq_by_cmp}
 use Rattle.access_lists.specs.declared.acl.Acl.{Acl}
@@ -15,13 +14,13 @@ use Rattle.access_lists.specs.declared.member_kind.MemberKind.TheVariants as mem
 use Rattle.access_lists.specs.declared.perm.Perm.{Perm}
 use Rattle.access_lists.specs.declared.perm.Perm.TheVariants as permission
 use Rattle.access_lists.specs.Acls.{entry_of, each_entry, with_actor, without_actor, without_group}
-use Rattle.access_lists.specs.Changes.{changed, joined, left, left_all, with_user, without_user, with_client, without_client, with_groups}
+use Rattle.access_lists.specs.Changes.{changed, joined, left, with_user, without_user, with_client, without_client, with_groups}
 use Rattle.access_lists.specs.MapValues.{map_values}
 use Rattle.access_lists.specs.Members.{Members, GroupsByName, Membership}
 use Rattle.access_lists.specs.Permitted.{operator}
 use Rattle.access_lists.specs.Starting.{no_members, is_starting_group}
 use Rattle.access_lists.specs.Strangers as membership
-use Rattle.access_lists.specs.TextSets.{Names, lists, in_order, without}
+use Rattle.access_lists.specs.TextSets.{Names, lists, without}
 use Rattle.access_lists.proofs.MapValuesLemmas.{get-map_values, is_some-map_values}
 use Rattle.access_lists.proofs.TextSetLemmas.{tied, lists-in_order}
 use Rattle.doc_tree.specs.Doc.{Doc}
@@ -164,15 +163,15 @@ has-leaves kind name m member.Group q = is_some-map_values (left kind name) nat_
 -- whoever is among the members was, or is the one who joined
 joined_was : (kind : MemberKind) (name : List ℕ) (members : Members) (k : MemberKind) (q : List ℕ) → has_member k q (joined kind name members) ≡ true
     → (has_member k q members ≡ true) ⊎ ((k ≡ kind) × (q ≡ name))
-joined_was member.User name members member.User q is = elim (put_was members.users name q is) [ | inl was ↦ inl was | inr same ↦ inr (refl, same) ]
+joined_was member.User name members member.User q is = elim (put_was members.users name q is) [ inl was ↦ inl was | inr same ↦ inr (refl, same) ]
 joined_was member.User name members member.Client q is = inl is
 joined_was member.User name members member.Group q is = inl is
 joined_was member.Client name members member.User q is = inl is
-joined_was member.Client name members member.Client q is = elim (put_was members.clients name q is) [ | inl was ↦ inl was | inr same ↦ inr (refl, same) ]
+joined_was member.Client name members member.Client q is = elim (put_was members.clients name q is) [ inl was ↦ inl was | inr same ↦ inr (refl, same) ]
 joined_was member.Client name members member.Group q is = inl is
 joined_was member.Group name members member.User q is = inl is
 joined_was member.Group name members member.Client q is = inl is
-joined_was member.Group name members member.Group q is = elim (put_was members.groups name q is) [ | inl was ↦ inl was | inr same ↦ inr (refl, same) ]
+joined_was member.Group name members member.Group q is = elim (put_was members.groups name q is) [ inl was ↦ inl was | inr same ↦ inr (refl, same) ]
 
 -- another than the one of this kind and name
 abbrev IsOther : MemberKind → List ℕ → MemberKind → List ℕ → Type 0
@@ -222,7 +221,7 @@ user_grows name m member.Client q is = is
 user_grows name m member.Group q is = is
 
 user_was : (name : List ℕ) (m : Membership) (k : MemberKind) (q : List ℕ) → membership.has (with_user name m) k q ≡ true → (membership.has m k q ≡ true) ⊎ ((k ≡ member.User) × (q ≡ name))
-user_was name m member.User q is = elim (put_was m.users name q is) [ | inl was ↦ inl was | inr same ↦ inr (refl, same) ]
+user_was name m member.User q is = elim (put_was m.users name q is) [ inl was ↦ inl was | inr same ↦ inr (refl, same) ]
 user_was name m member.Client q is = inl is
 user_was name m member.Group q is = inl is
 
@@ -241,7 +240,7 @@ client_grows name m member.Group q is = is
 
 client_was : (name : List ℕ) (m : Membership) (k : MemberKind) (q : List ℕ) → membership.has (with_client name m) k q ≡ true → (membership.has m k q ≡ true) ⊎ ((k ≡ member.Client) × (q ≡ name))
 client_was name m member.User q is = inl is
-client_was name m member.Client q is = elim (put_was m.clients name q is) [ | inl was ↦ inl was | inr same ↦ inr (refl, same) ]
+client_was name m member.Client q is = elim (put_was m.clients name q is) [ inl was ↦ inl was | inr same ↦ inr (refl, same) ]
 client_was name m member.Group q is = inl is
 
 pub comes_client : (g name : List ℕ) (m : Membership) → Comes member.Client name m (joins g member.Client name (with_client name m))
@@ -306,7 +305,7 @@ comes_group name m = record {
   grows = λ k q is. group_grows name no_members m k q is;
   there = group_there name no_members m;
   was = λ k q is. group_was name no_members m k q is;
-  members = λ at k q is. elim (in_put name no_members m at k q is) [ | inl nobody ↦ absurd (nobody_in k q nobody) | inr was ↦ inl was ];
+  members = λ at k q is. elim (in_put name no_members m at k q is) [ inl nobody ↦ absurd (nobody_in k q nobody) | inr was ↦ inl was ];
 }
 
 -- ---- who goes
@@ -491,12 +490,12 @@ group_comes_apart : (name : List ℕ) (m new : Membership) → Comes member.Grou
 group_comes_apart name m new comes apart = record {
   apart = λ q. both_not (membership.has new member.User q) (membership.has new member.Client q) (λ user client.
       elim (comes.was member.User q user) [
-        | inl was ↦ elim (comes.was member.Client q client) [ | inl also ↦ not_both _ _ (apart.apart q) was also | inr (kind, same) ↦ cc kind ]
+        | inl was ↦ elim (comes.was member.Client q client) [ inl also ↦ not_both _ _ (apart.apart q) was also | inr (kind, same) ↦ cc kind ]
         | inr (kind, same) ↦ cc kind
       ]);
   operator_apart = neither (membership.has new member.User operator) (membership.has new member.Client operator)
-      (λ user. elim (comes.was member.User operator user) [ | inl was ↦ is_false _ (or_parts _ _ apart.operator_apart).0 was | inr (kind, same) ↦ cc kind ])
-      (λ client. elim (comes.was member.Client operator client) [ | inl was ↦ is_false _ (or_parts _ _ apart.operator_apart).1 was | inr (kind, same) ↦ cc kind ]);
+      (λ user. elim (comes.was member.User operator user) [ inl was ↦ is_false _ (or_parts _ _ apart.operator_apart).0 was | inr (kind, same) ↦ cc kind ])
+      (λ client. elim (comes.was member.Client operator client) [ inl was ↦ is_false _ (or_parts _ _ apart.operator_apart).1 was | inr (kind, same) ↦ cc kind ]);
 }
 
 -- somebody went
@@ -519,11 +518,11 @@ entry_each change list permission.Delete = refl
 entry_each change list permission.Grant = refl
 
 lists_more : (texts : List (List ℕ)) (last q : List ℕ) → lists (texts ++ last ∷ []) q ≡ true → (lists texts q ≡ true) ⊎ (q ≡ last)
-lists_more [] last q is = elim (either (bytes_eq q last) false is) [ | inl same ↦ inr (same_name q last same) | inr none ↦ cc none ]
+lists_more [] last q is = elim (either (bytes_eq q last) false is) [ inl same ↦ inr (same_name q last same) | inr none ↦ cc none ]
 lists_more (text ∷ texts) last q is =
     elim (either (bytes_eq q text) (lists (texts ++ last ∷ []) q) is) [
       | inl first ↦ inl (or_left (bytes_eq q text) (lists texts q) first)
-      | inr rest ↦ elim (lists_more texts last q rest) [ | inl among ↦ inl (or_right (bytes_eq q text) (lists texts q) among) | inr same ↦ inr same ]
+      | inr rest ↦ elim (lists_more texts last q rest) [ inl among ↦ inl (or_right (bytes_eq q text) (lists texts q) among) | inr same ↦ inr same ]
     ]
 
 -- an actor of an entry with one more was one, or is that one
@@ -533,7 +532,7 @@ actor_more entry name q is = lists_more entry.actors name q (sym (lists-in_order
 lists_kept : (text other q : List ℕ) (rest : List (List ℕ)) (b : Bool) → bytes_eq text other ≡ b → lists (cond (not b) (other ∷ rest) rest) q ≡ true
     → (((bytes_eq text other ≡ false) × (bytes_eq q other ≡ true)) ⊎ (lists rest q ≡ true))
 lists_kept text other q rest true same is = inr is
-lists_kept text other q rest false apart is = elim (either (bytes_eq q other) (lists rest q) is) [ | inl first ↦ inl (apart, first) | inr more ↦ inr more ]
+lists_kept text other q rest false apart is = elim (either (bytes_eq q other) (lists rest q) is) [ inl first ↦ inl (apart, first) | inr more ↦ inr more ]
 
 -- a text that is left was there, and isn't the one that was taken out
 lists_without : (text : List ℕ) (texts : List (List ℕ)) (q : List ℕ) → lists (without text texts) q ≡ true → (lists texts q ≡ true) × (q ≡ text → ⊥)
@@ -672,8 +671,8 @@ put_listed o k object list q false meets own other =
     let after : Organisation = with_lists (finite.insert o.lists k list) (with_objects (finite.insert o.objects k object) o) in
     meets.listed q
     ∙ sym (same_listed o after q.kind q.name
-        (λ has_list. ap is_some (put-at o.objects k object q) ∙ ap (λ b. is_some (cond b (Some object) (finite.get o.objects q))) other)
-        (λ group. refl))
+    (λ has_list. ap is_some (put-at o.objects k object q) ∙ ap (λ b. is_some (cond b (Some object) (finite.get o.objects q))) other)
+    (λ group. refl))
 
 -- an object comes with its list
 pub put_with_list : (o : Organisation) (k : Key) (object : Doc) (list : Acl) → AccessConditions o → has_own_list k.kind ≡ true → NamesKnown o.membership list
@@ -704,8 +703,8 @@ left_listed o k q false meets own other =
     let after : Organisation = with_lists (finite.remove o.lists k) (with_objects (finite.remove o.objects k) o) in
     meets.listed q
     ∙ sym (same_listed o after q.kind q.name
-        (λ has_list. ap is_some (left-at o.objects k q) ∙ ap (λ b. is_some (cond b None (finite.get o.objects q))) other)
-        (λ group. refl))
+    (λ has_list. ap is_some (left-at o.objects k q) ∙ ap (λ b. is_some (cond b None (finite.get o.objects q))) other)
+    (λ group. refl))
 
 -- an object goes with its list
 pub take_with_list : (o : Organisation) (k : Key) → AccessConditions o → has_own_list k.kind ≡ true
@@ -871,7 +870,7 @@ has-put_group name members m q other = ap is_some (get-put m.groups name members
 
 group_listed : (o : Organisation) (name : List ℕ) (list : Acl) (q : Key) (b : Bool) → AccessConditions o → eq_by_cmp key_cmp q (key kinds.Group name) ≡ b
     → is_some (cond b (Some list) (finite.get o.lists q))
-        ≡ has_listed (with_lists (finite.insert o.lists (key kinds.Group name) list) (with_membership (put_group name no_members o.membership) o)) q.kind q.name
+    ≡ has_listed (with_lists (finite.insert o.lists (key kinds.Group name) list) (with_membership (put_group name no_members o.membership) o)) q.kind q.name
 group_listed o name list q true meets same =
     let after : Organisation = with_lists (finite.insert o.lists (key kinds.Group name) list) (with_membership (put_group name no_members o.membership) o) in
     subst (λ (x : Key). true ≡ has_listed after x.kind x.name) (sym (same_keys q (key kinds.Group name) same)) (sym (group_there name no_members o.membership))
@@ -914,7 +913,7 @@ pub group_changes : (o : Organisation) (name : List ℕ) (members : Members) →
 group_changes o name members meets there known =
     let new : Membership = put_group name members o.membership in
     let same_groups : (q : List ℕ) → membership.has new member.Group q ≡ membership.has o.membership member.Group q =
-        λ q. ap is_some (get-put o.membership.groups name members q) ∙ there_again o.membership.groups name members q (bytes_eq q name) there refl in
+    λ q. ap is_some (get-put o.membership.groups name members q) ∙ there_again o.membership.groups name members q (bytes_eq q name) there refl in
     record {
       listed = λ q. meets.listed q ∙ sym (same_listed o (with_membership new o) q.kind q.name (λ own. refl) (λ group. same_groups q.name));
       actors = meets.actors;

@@ -1,5 +1,5 @@
 -- Moves that keep the conditions of an organisation's state.
-use Rattle.std.proofs.Common.{◌≡◌, ℕ, List, [], ◌∷◌, ◌++◌, map, Bool, true, false, cond, not, ◌&&◌, ◌||◌, Option, Some, None, is_some, unwrap_or, codes, bytes_eq, refl, sym, ap, subst, ◌∙◌}
+use Rattle.std.proofs.Common.{◌≡◌, ℕ, List, [], ◌∷◌, ◌++◌, map, Bool, true, false, cond, not, ◌&&◌, ◌||◌, Option, Some, None, is_some, unwrap_or, codes, refl, sym, ap, subst, ◌∙◌}
 use Rattle.std.specs.FinMap as finite
 use Rattle.std.specs.FinSet as set
 use Rattle.std.specs.Ordering.{eq_by_cmp}
@@ -13,7 +13,6 @@ use Rattle.access_lists.specs.Starting.{name_of, no_members, is_starting_group, 
 use Rattle.access_lists.specs.Strangers as membership
 use Rattle.doc_tree.specs.Doc.{Doc}
 use Rattle.doc_tree.specs.Name.{is_name}
-use Rattle.doc_tree.specs.declared.kind.Kind.{Kind}
 use Rattle.doc_tree.specs.declared.kind.Kind.TheVariants as kinds
 use Rattle.object_store.specs.Items.{item_name, ids_in}
 use Rattle.object_store.specs.Objects.{Objects, key, key_cmp}
@@ -23,15 +22,12 @@ use Rattle.org_core.proofs.AccessConditionsLemmas as lemmas
 use Rattle.org_core.proofs.ObjectConditionsLemmas.{items_taken_out, keeps_bag_removal, keeps_first, keeps_put, keeps_take_out, nobody_taken_out, same_keys, without_items}
 use Rattle.org_core.proofs.StartingConditionsLemmas.{key_named, started, starting_known, starts, starts_without_clients}
 use Rattle.org_core.specs.AccessConditions.{AccessConditions, HasItsClients, has_member}
-use Rattle.org_core.specs.Comers.{Coming}
 use Rattle.org_core.specs.Conditions.{MeetsConditions}
-use Rattle.org_core.specs.Contexts.{Context}
 use Rattle.org_core.specs.Creating.{container_list, created_list, with_creator}
 use Rattle.org_core.specs.Moves.{after_moves, joins, with_objects}
-use Rattle.org_core.specs.Needs.{if_named, is_known}
-use Rattle.org_core.specs.ObjectConditions.{has, IsStored, ObjectConditions}
-use Rattle.org_core.specs.States.{State, Organisation, has_object, list_in, membership_of, objects_of}
-use Rattle.org_core.specs.declared.moves.Move.{Move}
+use Rattle.org_core.specs.Needs.{if_named}
+use Rattle.org_core.specs.ObjectConditions.{has, IsStored}
+use Rattle.org_core.specs.States.{State, Organisation, objects_of}
 use Rattle.org_core.specs.declared.moves.Move.TheVariants.{Put, TakeOut, PutList, TakeList, AddUser, AddClient, RemoveUser, RemoveClient, PutGroup, RemoveGroup}
 
 -- ---- the list of what is created
@@ -96,10 +92,13 @@ pub record IsListedKey (k : Key) : Type 0 where
 
 pub create_keeps : (o : Organisation) (k : Key) (object : Doc) (list : Acl) → MeetsConditions (Some o) → IsListedKey k → IsStored k.kind k.name object → NamesKnown o.membership list
     → MeetsConditions (after_moves (Put k object ∷ PutList k list ∷ []) (Some o))
-create_keeps o k object list (objects, (access, clients)) listed this known =
-    (keeps_put o.objects k object objects this (λ bag id named same. absurd (listed.no_item (item_name bag id) same)),
-    (put_with_list o k object list access listed.own known,
-    λ name. clients name ∙ sym (other_put o.objects k object name (listed.no_client name))))
+create_keeps o k object list (objects, (access, clients)) listed this known = (
+  keeps_put o.objects k object objects this (λ bag id named same. absurd (listed.no_item (item_name bag id) same)),
+  (
+    put_with_list o k object list access listed.own known,
+    λ name. clients name ∙ sym (other_put o.objects k object name (listed.no_client name)),
+  ),
+)
 
 no_client_item : (name item : List ℕ) → key kinds.Item item ≡ key kinds.Client name → ⊥
 no_client_item name item same = cc (ap (λ (k : Key). k.kind) same)
@@ -109,11 +108,14 @@ pub create_client_keeps : (o : Organisation) (group name : List ℕ) (object : D
     → membership.is_actor o.membership name ≡ false → NamesKnown o.membership list
     → MeetsConditions (after_moves (AddClient (record { name = name; group = group }) ∷ Put (key kinds.Client name) object ∷ PutList (key kinds.Client name) list ∷ []) (Some o))
 create_client_keeps o group name object list (objects, (access, clients)) this form free known =
-    let new : Membership = joins group member.Client name (with_client name o.membership) in
-    (keeps_put o.objects (key kinds.Client name) object objects this (λ bag id named same. absurd (no_client_item name (item_name bag id) same)),
-    (put_with_list _ (key kinds.Client name) object list (lemmas.client_comes o group name access free form) refl
-        (known_grows member.Client name o.membership new list (comes_client group name o.membership) known),
-    λ q. client_put o name object q clients))
+    let new : Membership = joins group member.Client name (with_client name o.membership) in (
+      keeps_put o.objects (key kinds.Client name) object objects this (λ bag id named same. absurd (no_client_item name (item_name bag id) same)),
+      (
+        put_with_list _ (key kinds.Client name) object list (lemmas.client_comes o group name access free form) refl
+            (known_grows member.Client name o.membership new list (comes_client group name o.membership) known),
+        λ q. client_put o name object q clients,
+      ),
+    )
 
 -- ---- an object takes the place of one
 
@@ -128,10 +130,13 @@ put_same objects k object q there = ap is_some (put-at objects k object q) ∙ s
 pub replace_keeps : (o : Organisation) (k : Key) (object : Doc) → MeetsConditions (Some o) → is_some (finite.get o.objects k) ≡ true → IsStored k.kind k.name object
     → ((bag id : List ℕ) → is_name bag ≡ true → key kinds.Item (item_name bag id) ≡ k → has o.objects kinds.Bag bag ≡ true)
     → MeetsConditions (after_moves (Put k object ∷ []) (Some o))
-replace_keeps o k object (objects, (access, clients)) there this own =
-    (keeps_put o.objects k object objects this own,
-    (objects_alone o (finite.insert o.objects k object) access (λ q listed. put_same o.objects k object q there),
-    λ name. clients name ∙ sym (put_same o.objects k object (key kinds.Client name) there)))
+replace_keeps o k object (objects, (access, clients)) there this own = (
+  keeps_put o.objects k object objects this own,
+  (
+    objects_alone o (finite.insert o.objects k object) access (λ q listed. put_same o.objects k object q there),
+    λ name. clients name ∙ sym (put_same o.objects k object (key kinds.Client name) there),
+  ),
+)
 
 -- an item's key is that of no object with a list
 other_than_item : (q : Key) (name : List ℕ) → has_own_list q.kind ≡ true → eq_by_cmp key_cmp q (key kinds.Item name) ≡ false
@@ -145,35 +150,47 @@ other_than_item q name own =
 pub put_item_keeps : (o : Organisation) (name : List ℕ) (item : Doc) → MeetsConditions (Some o) → IsStored kinds.Item name item
     → ((bag id : List ℕ) → is_name bag ≡ true → key kinds.Item (item_name bag id) ≡ key kinds.Item name → has o.objects kinds.Bag bag ≡ true)
     → MeetsConditions (after_moves (Put (key kinds.Item name) item ∷ []) (Some o))
-put_item_keeps o name item (objects, (access, clients)) this own =
-    (keeps_put o.objects (key kinds.Item name) item objects this own,
-    (objects_alone o (finite.insert o.objects (key kinds.Item name) item) access
+put_item_keeps o name item (objects, (access, clients)) this own = (
+  keeps_put o.objects (key kinds.Item name) item objects this own,
+  (
+    objects_alone o (finite.insert o.objects (key kinds.Item name) item) access
         (λ q listed. ap is_some (put-at o.objects (key kinds.Item name) item q) ∙ ap (λ b. is_some (cond b (Some item) (finite.get o.objects q))) (other_than_item q name listed)),
-    λ client. clients client ∙ sym (other_put o.objects (key kinds.Item name) item client refl)))
+    λ client. clients client ∙ sym (other_put o.objects (key kinds.Item name) item client refl),
+  ),
+)
 
 -- ---- an object goes with its list
 
 pub remove_keeps : (o : Organisation) (k : Key) → MeetsConditions (Some o) → IsListedKey k → ((bag : List ℕ) → eq_by_cmp key_cmp (key kinds.Bag bag) k ≡ false)
     → eq_by_cmp key_cmp (key kinds.Environment (codes "_default")) k ≡ false → MeetsConditions (after_moves (TakeOut k ∷ TakeList k ∷ []) (Some o))
-remove_keeps o k (objects, (access, clients)) listed no_bag no_default =
-    (keeps_take_out o.objects k objects no_bag no_default,
-    (take_with_list o k access listed.own,
-    λ name. clients name ∙ sym (other_left o.objects k name (listed.no_client name))))
+remove_keeps o k (objects, (access, clients)) listed no_bag no_default = (
+  keeps_take_out o.objects k objects no_bag no_default,
+  (
+    take_with_list o k access listed.own,
+    λ name. clients name ∙ sym (other_left o.objects k name (listed.no_client name)),
+  ),
+)
 
 -- a client goes with its list, out of every group and every list
 pub remove_client_keeps : (o : Organisation) (name : List ℕ) → MeetsConditions (Some o)
     → MeetsConditions (after_moves (TakeOut (key kinds.Client name) ∷ TakeList (key kinds.Client name) ∷ RemoveClient name ∷ []) (Some o))
-remove_client_keeps o name (objects, (access, clients)) =
-    (keeps_take_out o.objects (key kinds.Client name) objects (λ bag. refl) refl,
-    (lemmas.client_goes _ name (take_with_list o (key kinds.Client name) access refl),
-    λ q. client_left o name q clients))
+remove_client_keeps o name (objects, (access, clients)) = (
+  keeps_take_out o.objects (key kinds.Client name) objects (λ bag. refl) refl,
+  (
+    lemmas.client_goes _ name (take_with_list o (key kinds.Client name) access refl),
+    λ q. client_left o name q clients,
+  ),
+)
 
 pub remove_item_keeps : (o : Organisation) (name : List ℕ) → MeetsConditions (Some o) → MeetsConditions (after_moves (TakeOut (key kinds.Item name) ∷ []) (Some o))
-remove_item_keeps o name (objects, (access, clients)) =
-    (keeps_take_out o.objects (key kinds.Item name) objects (λ bag. refl) refl,
-    (objects_alone o (finite.remove o.objects (key kinds.Item name)) access
+remove_item_keeps o name (objects, (access, clients)) = (
+  keeps_take_out o.objects (key kinds.Item name) objects (λ bag. refl) refl,
+  (
+    objects_alone o (finite.remove o.objects (key kinds.Item name)) access
         (λ q listed. ap is_some (left-at o.objects (key kinds.Item name) q) ∙ ap (λ b. is_some (cond b None (finite.get o.objects q))) (other_than_item q name listed)),
-    λ client. clients client ∙ sym (other_left o.objects (key kinds.Item name) client refl)))
+    λ client. clients client ∙ sym (other_left o.objects (key kinds.Item name) client refl),
+  ),
+)
 
 -- ---- a bag goes with its items
 
@@ -189,10 +206,13 @@ pub remove_bag_keeps : (state : State) (bag : List ℕ) → MeetsConditions stat
 remove_bag_keeps None bag meets = subst MeetsConditions (sym (nobody_taken_out bag (ids_in bag finite.empty))) tt
 remove_bag_keeps (Some o) bag (objects, (access, clients)) =
     let left : Objects = without_items bag (ids_in bag o.objects) o.objects in
-    subst MeetsConditions (sym (items_taken_out bag (ids_in bag o.objects) (TakeOut (key kinds.Bag bag) ∷ TakeList (key kinds.Bag bag) ∷ []) o))
-    (keeps_bag_removal bag o.objects objects,
-    (take_with_list (with_objects left o) (key kinds.Bag bag) (objects_alone o left access (λ q own. same_without bag (ids_in bag o.objects) o.objects q own)) refl,
-    λ name. clients name ∙ sym (other_left left (key kinds.Bag bag) name refl ∙ same_without bag (ids_in bag o.objects) o.objects (key kinds.Client name) refl)))
+    subst MeetsConditions (sym (items_taken_out bag (ids_in bag o.objects) (TakeOut (key kinds.Bag bag) ∷ TakeList (key kinds.Bag bag) ∷ []) o)) (
+      keeps_bag_removal bag o.objects objects,
+      (
+        take_with_list (with_objects left o) (key kinds.Bag bag) (objects_alone o left access (λ q own. same_without bag (ids_in bag o.objects) o.objects q own)) refl,
+        λ name. clients name ∙ sym (other_left left (key kinds.Bag bag) name refl ∙ same_without bag (ids_in bag o.objects) o.objects (key kinds.Client name) refl),
+      ),
+    )
 
 -- ---- lists, users and groups
 

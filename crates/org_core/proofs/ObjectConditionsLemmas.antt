@@ -19,7 +19,7 @@ use Rattle.object_store.specs.Keys.{is_of, names_of, key_cmp_total, key_cmp_ties
 use Rattle.object_store.specs.Objects.{Objects, key, key_cmp}
 use Rattle.object_store.specs.declared.key.Key.{Key}
 use Rattle.org_core.specs.declared.moves.Move.{Move}
-use Rattle.org_core.specs.declared.moves.Move.TheVariants.{Put, TakeOut, TakeList}
+use Rattle.org_core.specs.declared.moves.Move.TheVariants.{TakeOut, TakeList}
 use Rattle.org_core.specs.Moves.{after_moves, with_objects}
 use Rattle.org_core.specs.States.{Organisation}
 use Rattle.org_core.specs.ObjectConditions.{has, IsStored, ObjectConditions}

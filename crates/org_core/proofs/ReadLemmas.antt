@@ -1,13 +1,11 @@
 -- What was read of a body, and the name that it has.
-use Rattle.std.proofs.Common.{◌≡◌, ℕ, List, true, false, cond, IsTrue, Option, Some, None, is_some, option_and_then, Result, Ok, Err, refl, subst, ap, sym, ◌∙◌}
+use Rattle.std.proofs.Common.{◌≡◌, ℕ, List, true, false, cond, IsTrue, Option, Some, None, is_some, option_and_then, Result, Ok, Err, refl, subst}
 use Rattle.std.proofs.lemmas.Option.{same_Some}
 use Rattle.doc_tree.specs.Doc.{Doc, null, boolean, whole, words, list, dict}
 use Rattle.doc_tree.specs.Name.{is_name}
-use Rattle.doc_tree.specs.Part.{part_at}
 use Rattle.doc_tree.specs.declared.kind.Kind.{Kind}
-use Rattle.object_forms.proofs.StoredLemmas.{named_from}
 use Rattle.object_forms.specs.Forms.{name_from}
-use Rattle.object_forms.specs.Objects.{object_from, key_of, name_in}
+use Rattle.object_forms.specs.Objects.{object_from}
 use Rattle.org_core.specs.Bodies.{document_in, or_bad_field, object_said, object_in_body}
 use Rattle.org_core.specs.Named.{text_of}
 use Rattle.org_core.specs.declared.refusals.Refusal.{Refusal}

@@ -1,8 +1,7 @@
 -- What an organisation starts with meets the conditions of access lists, users, clients and groups.
-use Rattle.std.proofs.Common.{◌≡◌, ℕ, List, [], ◌∷◌, ◌++◌, map, Bool, true, false, cond, ◌&&◌, ◌||◌, ◌⊎◌, inl, inr, Option, Some, None, is_some, option_map, unwrap_or, codes, bytes_eq, refl, sym, ap, subst, ◌∙◌}
+use Rattle.std.proofs.Common.{◌≡◌, ℕ, List, [], ◌∷◌, ◌++◌, map, Bool, true, false, cond, ◌&&◌, ◌||◌, inl, inr, Option, Some, None, is_some, codes, bytes_eq, refl, sym, ap, subst, ◌∙◌}
 use Rattle.std.proofs.lemmas.Bool.{and_parts, or_left, or_right}
 use Rattle.std.proofs.lemmas.Option.{same_Some}
-use Rattle.std.specs.Cmp.Lexicographic.{nat_list_cmp_total}
 use Rattle.std.specs.FinMap as finite
 use Rattle.std.specs.FinSet as set
 use Rattle.std.specs.List.{list_any, list_all, find}
@@ -17,7 +16,7 @@ use Rattle.access_lists.specs.declared.starting.Container.TheVariants as contain
 use Rattle.access_lists.specs.Acls.{entry_of}
 use Rattle.access_lists.specs.Members.{Members, GroupsByName, Membership}
 use Rattle.access_lists.specs.Permitted.{operator}
-use Rattle.access_lists.specs.Starting.{A, AU, AKU, granting, containers, container_named, name_of, no_members, starting_groups, starting_list, is_starting_group}
+use Rattle.access_lists.specs.Starting.{A, AU, AKU, granting, containers, name_of, no_members, starting_groups, starting_list, is_starting_group}
 use Rattle.access_lists.specs.Strangers as membership
 use Rattle.access_lists.specs.TextSets.{text_cmp, lists}
 use Rattle.doc_tree.specs.Doc.{Doc}
@@ -28,7 +27,7 @@ use Rattle.object_store.specs.Objects.{Lists, key, key_cmp}
 use Rattle.object_store.specs.declared.key.Key.{Key}
 use Rattle.org_core.proofs.AccessConditionsLemmas.{NamesKnown, either, itself, same_name, get-put, put-at, nobody_in}
 use Rattle.org_core.proofs.ObjectConditionsLemmas.{same_keys, ties_itself}
-use Rattle.org_core.specs.AccessConditions.{has_listed, has_member, AreApart, AccessConditions, HasItsClients}
+use Rattle.org_core.specs.AccessConditions.{has_listed, has_member, AccessConditions, HasItsClients}
 use Rattle.org_core.specs.ObjectConditions.{has}
 use Rattle.org_core.specs.States.{Organisation}
 
@@ -49,13 +48,13 @@ fourth_is name is =
     or_right (bytes_eq name (codes "admins")) _ (or_right (bytes_eq name (codes "billing-admins")) _ (or_right (bytes_eq name (codes "clients")) _ (or_left (bytes_eq name (codes "users")) _ is)))
 
 A_starts : AreStarting A
-A_starts name is = elim (either (bytes_eq name (codes "admins")) _ is) [ | inl admins ↦ first_is name admins | inr none ↦ cc none ]
+A_starts name is = elim (either (bytes_eq name (codes "admins")) _ is) [ inl admins ↦ first_is name admins | inr none ↦ cc none ]
 
 AU_starts : AreStarting AU
 AU_starts name is =
     elim (either (bytes_eq name (codes "admins")) _ is) [
       | inl admins ↦ first_is name admins
-      | inr more ↦ elim (either (bytes_eq name (codes "users")) _ more) [ | inl users ↦ fourth_is name users | inr none ↦ cc none ]
+      | inr more ↦ elim (either (bytes_eq name (codes "users")) _ more) [ inl users ↦ fourth_is name users | inr none ↦ cc none ]
     ]
 
 AKU_starts : AreStarting AKU
@@ -65,7 +64,7 @@ AKU_starts name is =
       | inr more ↦
           elim (either (bytes_eq name (codes "clients")) _ more) [
             | inl clients ↦ third_is name clients
-            | inr more ↦ elim (either (bytes_eq name (codes "users")) _ more) [ | inl users ↦ fourth_is name users | inr none ↦ cc none ]
+            | inr more ↦ elim (either (bytes_eq name (codes "users")) _ more) [ inl users ↦ fourth_is name users | inr none ↦ cc none ]
           ]
     ]
 
@@ -243,7 +242,7 @@ containers_named : (cs : List Container) (name : List ℕ)
 containers_named [] name = refl
 containers_named (c ∷ cs) name =
     ap (λ b. b || list_any (λ (c : Container). eq_by_cmp key_cmp (key kinds.Container name) (key kinds.Container (name_of c))) cs)
-        (key_named kinds.Container name (name_of c) _ _ refl refl)
+    (key_named kinds.Container name (name_of c) _ _ refl refl)
     ∙ ap (λ b. bytes_eq name (name_of c) || b) (containers_named cs name)
     ∙ found_or (bytes_eq name (name_of c)) c (find (λ (c : Container). bytes_eq name (name_of c)) cs)
 
@@ -275,10 +274,46 @@ rows_listed default kinds.File name = refl
 -- each of the rows has a starting list
 rows_known : (m : Membership) → HasStarting m → EachList (NamesKnown m) rows
 rows_known m starts =
-    let known : (container : Container) → NamesKnown m (starting_list container) = λ container. starting_known m container starts in
-    (known container.Environments, (known container.Clients, (known container.Containers, (known container.CookbookArtifacts, (known container.Cookbooks, (known container.Data, (known container.Environments,
-    (known container.Groups, (known container.Nodes, (known container.Policies, (known container.PolicyGroups, (known container.Roles, (known container.Sandboxes,
-    (known container.Groups, (known container.Groups, (known container.Groups, (known container.Groups, tt)))))))))))))))))
+    let known : (container : Container) → NamesKnown m (starting_list container) = λ container. starting_known m container starts in (
+      known container.Environments,
+      (
+        known container.Clients,
+        (
+          known container.Containers,
+          (
+            known container.CookbookArtifacts,
+            (
+              known container.Cookbooks,
+              (
+                known container.Data,
+                (
+                  known container.Environments,
+                  (
+                    known container.Groups,
+                    (
+                      known container.Nodes,
+                      (
+                        known container.Policies,
+                        (
+                          known container.PolicyGroups,
+                          (
+                            known container.Roles,
+                            (
+                              known container.Sandboxes,
+                              (known container.Groups, (known container.Groups, (known container.Groups, (known container.Groups, tt)))),
+                            ),
+                          ),
+                        ),
+                      ),
+                    ),
+                  ),
+                ),
+              ),
+            ),
+          ),
+        ),
+      ),
+    )
 
 named_among : (names : List (List ℕ)) (q : List ℕ) → list_all is_name names ≡ true → lists names q ≡ true → is_name q ≡ true
 named_among [] q each is = cc

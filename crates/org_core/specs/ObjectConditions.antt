@@ -1,5 +1,5 @@
 -- The conditions that the objects of every organisation meet, kind by kind. A kind that is built later adds its own.
-use Rattle.std.specs.Prelude.{◌≡◌, Bool, true, ℕ, List, Some, None, Ok, is_some, codes}
+use Rattle.std.specs.Prelude.{◌≡◌, Bool, true, ℕ, List, Some, Ok, is_some, codes}
 use Rattle.std.specs.FinMap as map
 use Rattle.doc_tree.specs.Doc.{Doc}
 use Rattle.doc_tree.specs.Name.{is_name}
