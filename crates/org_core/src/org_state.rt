@@ -10,7 +10,7 @@ ghost use Rattle.org_core.specs.Conditions.{MeetsConditions};
 ghost use Rattle.std.specs.FinMap as finite;
 ghost use Rattle.access_lists.specs.Changes.{with_client, with_groups, with_user, without_client, without_user};
 ghost use Rattle.org_core.specs.States.{state_in, state_from, objects_of, object_in, has_object, list_in, membership_of, room_for, IsNobody};
-ghost use Rattle.org_core.specs.Moves.{HasPlace, HasPlaceFirst, HasRoom, IsOrderly, after_move, after_moves, group_joined, joins, leaves, lists_without_actor, lists_without_group, takes_room};
+ghost use Rattle.org_core.specs.Moves.{opens as spec_opens, HasPlace, HasPlaceFirst, HasRoom, IsOrderly, after_move, after_moves, group_joined, joins, leaves, lists_without_actor, lists_without_group, takes_room};
 
 use crate::comers::Comer;
 use crate::moves::{Move, Moves, puts_in};
@@ -233,11 +233,18 @@ fn make(there: &mut bool, objects: &mut Objects, groups: &mut Groups, one: Move)
     ensures room { room_for objects.old groups.old ≤ room_for objects.new groups.new + cond (takes_room one) 1 0 }
     ensures nobody { IsNobody there.new objects.new groups.new }
 {
-    if matches!(one, Move::Open) {
-        *there = true;
-    } else if *there {
+    if *there {
         make_there(objects, groups, one);
+    } else {
+        *there = opens(one);
     }
+}
+
+// Whether the move makes an organisation of none.
+fn opens(one: Move) -> bool
+    ensures { result ≡ spec_opens one }
+{
+    matches!(one, Move::Open)
 }
 
 // The move is made of an organisation that is there.
