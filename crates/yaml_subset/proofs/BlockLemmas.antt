@@ -14,7 +14,7 @@ use Rattle.doc_tree.specs.Part.{pair_at, with_pair}
 use Rattle.doc_tree.specs.Valid.{IsDoc, AreDocs, ArePairs, InOrder}
 use Rattle.doc_tree.proofs.Docs.{docs_of-docs_list, pairs_of-pairs_list}
 use Rattle.doc_tree.proofs.Maps.{bytes_eq-symm}
-use Rattle.yaml_subset.specs.Machine.{an_open_list, an_open_map, column_of, fill, finish, inside, land, room_of, run}
+use Rattle.yaml_subset.specs.Machine.{an_open_list, an_open_map, fill, finish, inside, land, room_of, run}
 use Rattle.yaml_subset.specs.Written.{is_block}
 use Rattle.yaml_subset.specs.declared.mark.Mark.{Mark}
 use Rattle.yaml_subset.specs.declared.mark.Mark.TheVariants.{Dash, Key, Value, Bare}
@@ -49,6 +49,11 @@ abbrev mutual
 -- the document that marks come to from here
 abbrev pub ends : Option Blocks → List Mark → Option Doc
 ends o ms = option_map finish (run o ms)
+
+-- where a block stands
+abbrev column_of : Frame → ℕ
+column_of (InList f) = f.column
+column_of (InMap f) = f.column
 
 -- ---- what follows a block stands left of it
 

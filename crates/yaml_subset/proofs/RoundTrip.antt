@@ -215,3 +215,7 @@ spells_written d v shallow = elim (cases_Bool (is_block d)) [
   | inl block ↦ subst (λ (t : List ℕ). Spells t d) (sym (cond-true (is_block d) (block_text [] d) (scalar_text d ++ 10 ∷ []) block)) (block_spells d v shallow block)
   | inr other ↦ subst (λ (t : List ℕ). Spells t d) (sym (cond-false (is_block d) (block_text [] d) (scalar_text d ++ 10 ∷ []) other)) (scalar_spells d v shallow other)
 ]
+
+-- a text that is a tree's spells that tree
+pub spells_text : (text : List ℕ) (d : Doc) → text ≡ written d → IsDoc d → depth d ≤ 100 → Spells text d
+spells_text text d is v shallow = subst (λ (t : List ℕ). Spells t d) (sym is) (spells_written d v shallow)
