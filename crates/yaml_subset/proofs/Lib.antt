@@ -6,6 +6,7 @@ pub mod QuotedLemmas
 pub mod TextsLemmas
 pub mod FlowLemmas
 pub mod SaidLemmas
+pub mod Utf8Lemmas
 pub mod LiteralLemmas
 pub mod LinesLemmas
 pub mod FaultLemmas
