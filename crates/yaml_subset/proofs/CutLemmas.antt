@@ -29,7 +29,8 @@ all_weaker f g h (x ∷ xs) all = let p = and_parts _ _ all in and_from _ _ (h x
 abbrev pub is_inline : ℕ → Bool
 is_inline b = if b == 10 || b == 13 then false else true
 
-none_if : (t : Bool) → (if t then false else true) ≡ true → t ≡ false
+-- a test of which the opposite holds
+pub none_if : (t : Bool) → (if t then false else true) ≡ true → t ≡ false
 none_if true h = absurd (false≢true h)
 none_if false h = refl
 

@@ -1,8 +1,7 @@
 -- The text of a literal, line by line.
-use Rattle.std.proofs.Common.{◌≡◌, ◌≤◌, ◌&&◌, ℕ, Bool, true, false, nat_le, List, [], ◌∷◌, ◌++◌, drop, Option, Some, None, if◌then◌else◌, is_none, refl, ap, ap₂, sym, ◌∙◌, append_assoc, arith}
-use Rattle.std.proofs.lemmas.Bool.Decides.{nat_tests}
+use Rattle.std.proofs.Common.{◌≡◌, ◌&&◌, ℕ, Bool, true, false, List, [], ◌∷◌, ◌++◌, drop, Option, Some, None, if◌then◌else◌, is_none, refl, ap, ap₂, sym, ◌∙◌, append_assoc}
 use Rattle.yaml_subset.specs.Signs.{indent, is_blank, is_marker}
-use Rattle.yaml_subset.specs.Literal.{a_held, add, add_full, all_blank, cut_at, feed, fits, held_text, joined, literal_text, own_indent}
+use Rattle.yaml_subset.specs.Literal.{a_held, add, all_blank, cut_at, feed, fits, held_text, joined, literal_text, own_indent}
 use Rattle.yaml_subset.specs.declared.literal.Held.{Held}
 
 -- ---- one line more

@@ -1,6 +1,6 @@
 -- Scalars, dashes and keys as they are written read back, each on its line.
 use Rattle.std.proofs.Common.{◌≡◌, ◌==◌, ◌+◌, ◌&&◌, ◌||◌, ℕ, Bool, true, false, List, [], ◌∷◌, ◌++◌, length, take, drop, Option, Some, None, option_map, IsUtf8, chars, if◌then◌else◌, inl, inr, refl, ap, ap₂, sym, subst, ◌∙◌, arith, append_assoc, length-append}
-use Rattle.std.proofs.lemmas.Bool.{and_parts, and_from, and_left, or_parts, or_from, cond-true, cond-false, both_ways, eqb-true, cases_Bool}
+use Rattle.std.proofs.lemmas.Bool.{and_parts, and_from, and_left, or_from, cond-true, cond-false, both_ways, eqb-true, cases_Bool}
 use Rattle.std.specs.List.{list_all}
 use Rattle.doc_tree.specs.Doc.{Doc, null, boolean, whole, words, list, dict, no_docs, then_doc, no_pairs, then_pair}
 use Rattle.doc_tree.specs.Valid.{IsDoc}
@@ -14,7 +14,7 @@ use Rattle.yaml_subset.specs.declared.mark.Mark.TheVariants.{Dash, Key}
 use Rattle.yaml_subset.specs.declared.said.Rest.TheVariants.{Nothing, Scalar}
 use Rattle.yaml_subset.proofs.CutLemmas.{all_append, all_weaker, drop_front, is_inline, take_front}
 use Rattle.yaml_subset.proofs.EscapedLemmas.{escaped_inline, quoted_back}
-use Rattle.yaml_subset.proofs.PlainLemmas.{Bare, Begins, apart_by_table, bare_back, bare_begins, bare_parts, colon_none, colon_tight, first_ascii, inner_ascii, is_first, is_tight, number_back, plain_is, trimmed_tight, trimmed_whole}
+use Rattle.yaml_subset.proofs.PlainLemmas.{Bare, Begins, apart_by_table, bare_back, bare_begins, bare_parts, colon_none, colon_tight, first_ascii, inner_ascii, is_first, is_tight, number_back, plain_is, tight_parts, trimmed_tight, trimmed_whole}
 use Rattle.yaml_subset.proofs.TextsLemmas.{text_in_is}
 
 -- ---- how a line goes on behind its indent
@@ -63,11 +63,7 @@ no_key b text h =
     cond-false (is_quote b) _ _ h.quote ∙ ap (λ (t : List ℕ). plain_key (colon_at t) t) (trimmed_whole (b ∷ text) h.tight) ∙ ap (λ (o : Option ℕ). plain_key o (b ∷ text)) (colon_none (b ∷ text) h.tight)
 
 tight_space : (b : ℕ) (text : List ℕ) → list_all is_tight (b ∷ text) ≡ true → (b == 32) ≡ false
-tight_space b text all = (or_parts _ _ (if_parts (b == 32 || b == 58) (and_parts (is_tight b) _ all).0)).0
-  where
-    if_parts : (t : Bool) → (if t then false else true) ≡ true → t ≡ false
-    if_parts true h = absurd (both_ways false refl h)
-    if_parts false h = refl
+tight_space b text all = (tight_parts b (and_parts (is_tight b) _ all).0).0
 
 plain_reads : (b : ℕ) (text : List ℕ) (d : Doc) → Begins b text → plain_doc (b ∷ text) ≡ Some d → is_marker (b ∷ text) ≡ false → list_all is_inline (b ∷ text) ≡ true → Reads (b ∷ text) d
 plain_reads b text d h is marker inline = record {
@@ -194,10 +190,10 @@ bare_key b s rest h u apart =
     let begins = bare_begins b s h in
     let cut : trimmed (b ∷ (s ++ 58 ∷ rest)) ≡ (b ∷ s) ++ 58 ∷ trimmed rest = trimmed_tight (b ∷ s) (58 ∷ rest) begins.tight in
     let colon : colon_at ((b ∷ s) ++ 58 ∷ trimmed rest) ≡ Some (length (b ∷ s) + 0) =
-        colon_tight (b ∷ s) (58 ∷ trimmed rest) begins.tight ∙ ap (later (length (b ∷ s))) (cond-true (is_apart (trimmed rest)) (Some 0) (later 1 (colon_at (trimmed rest))) (apart_trimmed rest apart)) in
+    colon_tight (b ∷ s) (58 ∷ trimmed rest) begins.tight ∙ ap (later (length (b ∷ s))) (cond-true (is_apart (trimmed rest)) (Some 0) (later 1 (colon_at (trimmed rest))) (apart_trimmed rest apart)) in
     let long : length (b ∷ s) + 0 ≡ length (b ∷ s) = omega arith in
     let front : trimmed (take (length (b ∷ s) + 0) ((b ∷ s) ++ 58 ∷ trimmed rest)) ≡ b ∷ s =
-        ap (λ (n : ℕ). trimmed (take n ((b ∷ s) ++ 58 ∷ trimmed rest))) long ∙ ap trimmed (take_front (b ∷ s) (58 ∷ trimmed rest)) ∙ trimmed_whole (b ∷ s) begins.tight in
+    ap (λ (n : ℕ). trimmed (take n ((b ∷ s) ++ 58 ∷ trimmed rest))) long ∙ ap trimmed (take_front (b ∷ s) (58 ∷ trimmed rest)) ∙ trimmed_whole (b ∷ s) begins.tight in
     cond-false (is_quote b) _ _ begins.quote ∙ ap (λ (t : List ℕ). plain_key (colon_at t) t) cut
     ∙ ap (λ (o : Option ℕ). plain_key o ((b ∷ s) ++ 58 ∷ trimmed rest)) colon
     ∙ ap (λ (k : List ℕ). if is_plain k then option_map (λ k. (k, (length (b ∷ s) + 0) + 1)) (text_in k) else None) front

@@ -15,7 +15,7 @@ use Rattle.yaml_subset.specs.Signs.{colon_at, is_apart, is_indicator, is_marker,
 use Rattle.yaml_subset.specs.Written.{is_bare, is_inner, is_word}
 use Rattle.yaml_subset.specs.declared.scalar.Means.{Means}
 use Rattle.yaml_subset.specs.declared.scalar.Means.TheVariants.{Words}
-use Rattle.yaml_subset.proofs.CutLemmas.{all_weaker, is_inline}
+use Rattle.yaml_subset.proofs.CutLemmas.{all_weaker, is_inline, none_if}
 use Rattle.yaml_subset.proofs.ScalarLemmas.{not_zero}
 use Rattle.yaml_subset.proofs.TextsLemmas.{text_in_is}
 
@@ -58,12 +58,8 @@ is_tight b = if b == 32 || b == 58 then false else true
 tight_from : (b : ℕ) → (b == 32 || b == 58) ≡ false → is_tight b ≡ true
 tight_from b no_ = cond-false (b == 32 || b == 58) false true no_
 
-tight_if : (t : Bool) → (if t then false else true) ≡ true → t ≡ false
-tight_if true h = absurd (both_ways false refl h)
-tight_if false h = refl
-
-tight_parts : (b : ℕ) → is_tight b ≡ true → ((b == 32) ≡ false) × ((b == 58) ≡ false)
-tight_parts b h = or_parts _ _ (tight_if (b == 32 || b == 58) h)
+pub tight_parts : (b : ℕ) → is_tight b ≡ true → ((b == 32) ≡ false) × ((b == 58) ≡ false)
+tight_parts b h = or_parts _ _ (none_if (b == 32 || b == 58) h)
 
 pub trimmed_tight : (text rest : List ℕ) → list_all is_tight text ≡ true → trimmed (text ++ rest) ≡ text ++ trimmed rest
 trimmed_tight [] rest all = refl
@@ -136,11 +132,8 @@ pub record Bare (b : ℕ) (s : List ℕ) : Type 0 where
   pub inner : list_all is_inner s ≡ true
   pub word : is_word (b ∷ s) ≡ false
 
-not_if : (t : Bool) → (if t then false else true) ≡ true → t ≡ false
-not_if = tight_if
-
 pub bare_parts : (b : ℕ) (s : List ℕ) → is_bare (b ∷ s) ≡ true → Bare b s
-bare_parts b s is = let p = and_parts _ _ is in let q = and_parts _ _ p.1 in record { first = p.0; inner = q.0; word = not_if (is_word (b ∷ s)) q.1 }
+bare_parts b s is = let p = and_parts _ _ is in let q = and_parts _ _ p.1 in record { first = p.0; inner = q.0; word = none_if (is_word (b ∷ s)) q.1 }
 
 first_not : (g : ℕ → Bool) (b : ℕ) → agree_below (λ b. is_first b && g b) (λ b. false) 128 ≡ true → is_first b ≡ true → g b ≡ false
 first_not g b table is = apart_by_table is_first g first_ascii table b is

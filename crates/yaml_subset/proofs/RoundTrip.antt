@@ -120,7 +120,7 @@ node_lays c head m false d below more inner first h deep reads marks =
     let r = reads refl in
     ap (λ (t : List ℕ). lays (outside first) (lines t)) (scalar_apart (spaces c) head (scalar_text d) more)
     ∙ text_lays c (head ++ 32 ∷ scalar_text d) more first (m ∷ []) h.above (Scalar d) (head_starts c head (32 ∷ scalar_text d) m h) (all_append is_inline head (32 ∷ scalar_text d) h.inline r.inline)
-      (h.marker (32 ∷ scalar_text d) refl) (h.full (scalar_text d) d r) refl
+    (h.marker (32 ∷ scalar_text d) refl) (h.full (scalar_text d) d r) refl
     ∙ ap (λ (l : List Mark). option_map (λ ms. (m ∷ l) ++ ms) (lays (outside false) (lines more))) (sym (marks refl))
 
 scalar_marks : (c : ℕ) (d : Doc) → is_block d ≡ false → part_marks c d ≡ Value d ∷ []

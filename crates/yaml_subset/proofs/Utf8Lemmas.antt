@@ -1,5 +1,5 @@
 -- What is cut out of a text at its ASCII bytes is a text.
-use Rattle.std.proofs.Common.{◌≡◌, ◌==◌, ◌<◌, ◌≤◌, ℕ, zero, suc, Bool, true, false, List, [], ◌∷◌, ◌++◌, drop, IsUtf8, inl, inr, refl, ap, sym, subst, ◌∙◌, arith}
+use Rattle.std.proofs.Common.{◌==◌, ◌<◌, ◌≤◌, ℕ, zero, suc, List, [], ◌∷◌, ◌++◌, drop, IsUtf8, inl, inr, ap, sym, subst, arith}
 use Rattle.std.proofs.lemmas.Bool.{cases_Bool, cond-true, cond-false, eqb-true}
 use Rattle.std.proofs.lemmas.Str.{IsUtf8-past_char, encode_ascii}
 use Rattle.yaml_subset.specs.Signs.{indent}
