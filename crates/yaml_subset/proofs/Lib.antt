@@ -6,7 +6,14 @@ pub mod QuotedLemmas
 pub mod TextsLemmas
 pub mod FlowLemmas
 pub mod SaidLemmas
+pub mod Utf8Lemmas
 pub mod LiteralLemmas
 pub mod LinesLemmas
 pub mod FaultLemmas
 pub mod WrittenLemmas
+pub mod BlockLemmas
+pub mod CutLemmas
+pub mod EscapedLemmas
+pub mod PlainLemmas
+pub mod PartLemmas
+pub mod RoundTrip

@@ -1,34 +1,13 @@
 -- The text of a literal, line by line.
-use Rattle.std.proofs.Common.{◌≡◌, ◌≤◌, ◌&&◌, ℕ, Bool, true, false, nat_le, List, [], ◌∷◌, ◌++◌, drop, Option, Some, None, if◌then◌else◌, is_none, IsUtf8, refl, ap, ap₂, sym, ◌∙◌, append_assoc, arith}
-use Rattle.std.specs.Str.{is_utf8}
-use Rattle.std.proofs.lemmas.Bool.Decides.{nat_tests}
-use Rattle.std.proofs.lemmas.Str.{is_utf8-from_IsUtf8, IsUtf8-from_is_utf8, IsUtf8-nil}
+use Rattle.std.proofs.Common.{◌≡◌, ◌&&◌, ℕ, Bool, true, false, List, [], ◌∷◌, ◌++◌, drop, Option, Some, None, if◌then◌else◌, is_none, refl, ap, ap₂, sym, ◌∙◌, append_assoc}
 use Rattle.yaml_subset.specs.Signs.{indent, is_blank, is_marker}
-use Rattle.yaml_subset.specs.Literal.{a_held, add, add_full, all_blank, cut_at, feed, fits, held_text, joined, literal_text, own_indent}
+use Rattle.yaml_subset.specs.Literal.{a_held, add, all_blank, cut_at, feed, fits, held_text, joined, literal_text, own_indent}
 use Rattle.yaml_subset.specs.declared.literal.Held.{Held}
 
 -- ---- one line more
 
-none_utf8 : (b : Bool) (x : Held) → (b ≡ true → ⊥) → None ≡ (if b then Some x else None)
-none_utf8 true x no_ = absurd (no_ refl)
-none_utf8 false x no_ = refl
-
-pub full_is : (line : List ℕ) (h : Held) (n : ℕ) (text : List ℕ) (next : Held) → n ≡ cut_at h.indent line → n ≤ indent line → text ≡ drop n line → IsUtf8 (drop n line)
-    → next ≡ a_held (Some n) (h.text ++ (h.feeds ++ text)) (10 ∷ []) → Some next ≡ add_full line h
-full_is line h n text next at deep same u is =
-    let deep' : nat_le (cut_at h.indent line) (indent line) ≡ true = grind (arith, nat_tests) in
-    let whole : is_utf8 (drop (cut_at h.indent line) line) ≡ true = ap (λ (k : ℕ). is_utf8 (drop k line)) (sym at) ∙ is_utf8-from_IsUtf8 (drop n line) u in
-    rw (deep', whole) (ap Some (is ∙ ap (λ (t : List ℕ). a_held (Some n) (h.text ++ (h.feeds ++ t)) (10 ∷ [])) same
-    ∙ ap (λ (k : ℕ). a_held (Some k) (h.text ++ (h.feeds ++ drop k line)) (10 ∷ [])) at))
-
-pub full_none : (line : List ℕ) (h : Held) (n : ℕ) → n ≡ cut_at h.indent line → n ≤ indent line → (IsUtf8 (drop n line) → ⊥) → None ≡ add_full line h
-full_none line h n at deep no_ =
-    let deep' : nat_le (cut_at h.indent line) (indent line) ≡ true = grind (arith, nat_tests) in
-    rw deep' (none_utf8 (is_utf8 (drop (cut_at h.indent line) line)) _ (λ is. no_ (IsUtf8-from_is_utf8 (drop n line) (ap (λ (k : ℕ). is_utf8 (drop k line)) at ∙ is))))
-
 pub blank_is : (line : List ℕ) (h next : Held) → is_marker line ≡ false → is_blank line ≡ true → next ≡ a_held h.indent h.text (h.feeds ++ 10 ∷ []) → Some next ≡ (if fits h.indent line then Some (add line h) else None)
-blank_is line h next marker blank is =
-    let whole : is_utf8 [] ≡ true = is_utf8-from_IsUtf8 [] IsUtf8-nil in rw (marker, blank, whole) (ap Some is)
+blank_is line h next marker blank is = rw (marker, blank) (ap Some is)
 
 -- ---- all lines
 

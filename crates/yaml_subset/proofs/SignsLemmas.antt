@@ -11,7 +11,7 @@ later_more i (Some n) = ap Some (omega arith)
 
 -- ---- spaces
 
-passed_spaces : (g : ℕ) (text : List ℕ) → is_passed (spaces g ++ text) ≡ is_passed text
+pub passed_spaces : (g : ℕ) (text : List ℕ) → is_passed (spaces g ++ text) ≡ is_passed text
 passed_spaces zero text = refl
 passed_spaces (suc g) text = passed_spaces g text
 

@@ -1,6 +1,5 @@
 -- Literals (YAML 1.2.2, section 8.1.2): which lines are a literal's, and the text of these.
 use Rattle.std.specs.Prelude.{ℕ, ◌&&◌, ◌||◌, Bool, true, false, nat_le, is_none, if◌then◌else◌, List, [], ◌∷◌, ◌++◌, drop, Option, Some, None}
-use Rattle.std.specs.Str.{is_utf8}
 use Rattle.yaml_subset.specs.Signs.{indent, is_blank, is_marker}
 use Rattle.yaml_subset.specs.declared.literal.Held.{Held}
 
@@ -27,9 +26,9 @@ cut_at (Some n) line = n
 abbrev pub cut : Option ℕ → List ℕ → List ℕ
 cut own line = if is_blank line then [] else drop (cut_at own line) line
 
--- a line may come: it is no marker, it is blank or its indent is that of the first that isn't blank at least, and what is cut out of it is a text
+-- a line may come: it is no marker, and it is blank or its indent is that of the first that isn't blank at least
 abbrev pub fits : Option ℕ → List ℕ → Bool
-fits own line = if is_marker line then false else (if is_blank line || nat_le (cut_at own line) (indent line) then is_utf8 (cut own line) else false)
+fits own line = if is_marker line then false else is_blank line || nat_le (cut_at own line) (indent line)
 
 -- the lines up to the last that isn't blank, each cut, joined by line feeds
 abbrev pub joined : Option ℕ → List (List ℕ) → List ℕ
@@ -61,4 +60,4 @@ held_text keeps h = if is_none h.indent then [] else h.text ++ feed keeps
 -- one line more that isn't blank, where it fits
 abbrev pub add_full : List ℕ → Held → Option Held
 add_full line h =
-    if nat_le (cut_at h.indent line) (indent line) then (if is_utf8 (drop (cut_at h.indent line) line) then Some (a_held (Some (cut_at h.indent line)) (h.text ++ (h.feeds ++ drop (cut_at h.indent line) line)) (10 ∷ [])) else None) else None
+    if nat_le (cut_at h.indent line) (indent line) then Some (a_held (Some (cut_at h.indent line)) (h.text ++ (h.feeds ++ drop (cut_at h.indent line) line)) (10 ∷ [])) else None

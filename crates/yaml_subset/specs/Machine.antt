@@ -21,10 +21,6 @@ an_open_map room column pairs key = InMap (record { room = room; column = column
 abbrev pub inside : Bool → Frame → List Frame → Blocks
 inside due frame below = Within (record { due = due; frame = frame; below = below })
 
-abbrev pub column_of : Frame → ℕ
-column_of (InList f) = f.column
-column_of (InMap f) = f.column
-
 abbrev pub room_of : Frame → ℕ
 room_of (InList f) = f.room
 room_of (InMap f) = f.room

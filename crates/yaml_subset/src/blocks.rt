@@ -2,7 +2,7 @@
 ghost use Rattle.doc_tree.specs.Doc.{depth};
 ghost use Rattle.doc_tree.specs.Part.{with_pair};
 ghost use Rattle.std.specs.Prelude.{◌≡◌, [], Some, IfOk};
-ghost use Rattle.yaml_subset.specs.Machine.{an_open_list, an_open_map, begin, close_all, closes, column_of, fill, finish, frame_doc, inside, land, next_key, opens_list, opens_map, place, room_of, settle, settled_pairs, step, wants};
+ghost use Rattle.yaml_subset.specs.Machine.{an_open_list, an_open_map, begin, close_all, closes, fill, finish, frame_doc, inside, land, next_key, opens_list, opens_map, place, room_of, settle, settled_pairs, step, wants};
 ghost use Rattle.yaml_subset.specs.declared.mark.Mark.TheVariants as mark;
 ghost use Rattle.yaml_subset.specs.declared.blocks.Frame.TheVariants as frame_of;
 

@@ -23,6 +23,6 @@ mod token;
 mod write;
 
 pub use fault::{FaultKind, YamlFault};
-pub use laws::one_tree;
+pub use laws::{one_tree, written_spells};
 pub use read::read_yaml;
 pub use write::yaml_text;

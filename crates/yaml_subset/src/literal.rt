@@ -1,5 +1,5 @@
 //! Literals that are being read: the text so far.
-ghost use Rattle.std.specs.Prelude.{◌≡◌, ◌++◌, ◌∷◌, [], IfOk, Some, if◌then◌else◌};
+ghost use Rattle.std.specs.Prelude.{◌≡◌, ◌++◌, ◌∷◌, [], IfOk, IsUtf8, Some, if◌then◌else◌};
 ghost use Rattle.yaml_subset.specs.Literal.{a_held, add, add_full, belongs, cut_at, fits, held_text};
 ghost use Rattle.std.specs.Prelude as variant;
 
@@ -100,6 +100,7 @@ pub(crate) fn no_lines(alloc: Global) -> Held
 
 /// One line more, or `None` exactly where it doesn't fit.
 pub(crate) fn add(alloc: Global, line: &[u8], held: Held) -> Result<Option<Held>, NoMemory>
+    requires { IsUtf8 line.now }
     ensures { IfOk result (λ next. next ≡ (if fits held.indent line.now then Some (add line.now held) else variant.None)) }
 {
     if is_marker(line) {
@@ -128,6 +129,7 @@ fn add_blank(held: Held) -> Result<Held, NoMemory>
 }
 
 fn add_full(alloc: Global, line: &[u8], held: Held) -> Result<Option<Held>, NoMemory>
+    requires { IsUtf8 line.now }
     ensures { IfOk result (λ next. next ≡ add_full line.now held) }
 {
     let count = cut_at(held.indent, line);
@@ -136,7 +138,8 @@ fn add_full(alloc: Global, line: &[u8], held: Held) -> Result<Option<Held>, NoMe
     }
     match str::from_utf8(behind(line, count)) {
         Ok(text) => Ok(Some(add_text(alloc, count, text, held)?)),
-        Err(_) => Ok(None),
+        // What is cut off are spaces, so a text is left.
+        Err(_) => unreachable!(),
     }
 }
 

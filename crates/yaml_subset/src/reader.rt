@@ -1,5 +1,5 @@
 //! How a text is read line by line.
-ghost use Rattle.std.specs.Prelude.{◌≡◌, IfOk, Some, option_and_then};
+ghost use Rattle.std.specs.Prelude.{◌≡◌, IfOk, IsUtf8, Some, option_and_then};
 ghost use Rattle.yaml_subset.specs.Layout.{a_sign, is_lone, mark_of, marks_of, rest_marks};
 ghost use Rattle.yaml_subset.specs.Machine.{run, step};
 ghost use Rattle.yaml_subset.specs.Reader.{a_reader, end_of, enters, first_reader, held_mark, outside_step, place_end, read_step, said_step, within_step};
@@ -163,6 +163,7 @@ fn within_step(
     line: &[u8],
     blocks: Blocks,
 ) -> Result<Option<Reader>, NoMemory>
+    requires { IsUtf8 line.now }
     ensures { IfOk result (λ next. next ≡ within_step sign held line.now blocks) }
 {
     if belongs(sign.above, line) {
@@ -186,6 +187,7 @@ pub(crate) fn read_step(
     line: &[u8],
     reader: Reader,
 ) -> Result<Option<Reader>, NoMemory>
+    requires { IsUtf8 line.now }
     ensures { IfOk result (λ next. next ≡ read_step line.now reader) }
 {
     let Reader { place, blocks } = reader;

@@ -1,11 +1,12 @@
 //! Writing the YAML text of a tree.
-ghost use Rattle.doc_tree.specs.Doc.{docs_of, pairs_of};
+ghost use Rattle.doc_tree.specs.Doc.{depth, docs_of, pairs_of};
 ghost use Rattle.doc_tree.specs.Tree.{doc_of};
 ghost use Rattle.std.specs.Char.{digit_char, encode_utf8};
 ghost use Rattle.std.specs.List.{list_all};
 ghost use Rattle.std.specs.Fmt.{signed_decimal};
-ghost use Rattle.std.specs.Prelude.{◌≡◌, ◌<◌, ◌||◌, ◌==◌, ◌++◌, ◌∷◌, [], IfOk, OnOk, if◌then◌else◌, nat_lt, string_bytes};
+ghost use Rattle.std.specs.Prelude.{◌≡◌, ◌<◌, ◌≤◌, ◌||◌, ◌==◌, ◌++◌, ◌∷◌, [], IfOk, OnOk, if◌then◌else◌, nat_lt, string_bytes};
 ghost use Rattle.std.specs.Str.{chars};
+ghost use Rattle.yaml_subset.specs.Spells.{Spells};
 ghost use Rattle.yaml_subset.specs.Written.{block_text, char_text, deeper, escaped, hex_text, is_bare, is_block, is_inner, items_text, pairs_text, scalar_text, words_text, written};
 
 use crate::scalar::{is_false, is_null, is_true};
@@ -15,18 +16,27 @@ use std::alloc::Global;
 /// The YAML text of a tree: a line for each key or item, its part on the same line where it is a scalar or empty, and
 /// else on the lines below, two spaces deeper. Keys come in the order of their bytes, and each line ends with a line
 /// feed. A text stands without quotes where it begins with a letter or `/`, has only letters, digits and `_ . / -`
-/// behind that, and is no word of null or a truth value.
+/// behind that, and is no word of null or a truth value. Where the tree nests at most 100 deep, the text spells it.
 pub fn yaml_text(alloc: Global, tree: &Tree) -> Result<Text, NoMemory>
-    ensures { IfOk result (λ text. text ≡ written (doc_of tree.now)) }
+    ensures text { IfOk result (λ text. text ≡ written (doc_of tree.now)) }
+    ensures reads_back { IfOk result (λ text. depth (doc_of tree.now) ≤ 100 → Spells text (doc_of tree.now)) }
 {
+    // What every tree keeps makes its text one that reads back.
+    tree.known();
     let mut out = String::new(alloc);
-    if is_block(tree) {
-        write_block(alloc, &mut out, "", tree)?;
-    } else {
-        write_scalar(&mut out, tree)?;
-        out.push_str("\n")?;
-    }
+    write_document(alloc, &mut out, tree)?;
     Ok(Text::of(out))
+}
+
+fn write_document(alloc: Global, out: &mut String, tree: &Tree) -> Result<(), NoMemory>
+    ensures { OnOk result (string_bytes out.new ≡ string_bytes out.old ++ written (doc_of tree.now)) }
+{
+    if is_block(tree) {
+        return write_block(alloc, out, "", tree);
+    }
+    write_scalar(out, tree)?;
+    out.push_str("\n")?;
+    Ok(())
 }
 
 fn is_block(tree: &Tree) -> bool
