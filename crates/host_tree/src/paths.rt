@@ -64,6 +64,16 @@ impl Path {
         &self.text
     }
 
+    /// The proper prefix of the path that ends before the slash at `end`, which isn't its first byte.
+    pub fn prefix(&self, alloc: Global, end: usize) -> Result<Path, NoMemory>
+        requires { spec.EndsPrefix self.now end }
+        ensures { IfOk result (λ path. path ≡ take end self.now) }
+    {
+        Ok(Path {
+            text: Text::from_str(alloc, self.text.as_str().split_at(end).0)?,
+        })
+    }
+
     /// An equal path of its own.
     pub fn copy(&self, alloc: Global) -> Result<Path, NoMemory>
         ensures { IfOk result (λ path. path ≡ self.now) }
