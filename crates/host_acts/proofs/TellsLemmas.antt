@@ -1,5 +1,5 @@
 -- What is said of a host that may tell, from call to call; and the count of faults over several calls.
-use Rattle.std.proofs.Common.{◌≡◌, ◌⊎◌, inl, inr, ℕ, ◌+◌, ◌<◌, ◌≤◌, List, Option, Some, None, option_map, Result, Ok, Err, OnOk, OnErr, refl, sym, ap, subst, ◌∙◌, arith}
+use Rattle.std.proofs.Common.{◌≡◌, ◌⊎◌, inl, inr, ℕ, ◌+◌, ◌<◌, ◌≤◌, List, Option, Some, None, option_map, Result, Ok, Err, IfOk, OnOk, OnErr, refl, sym, ap, subst, ◌∙◌, arith}
 use Rattle.outside_core.proofs.FailedLemmas.{Rose-from}
 use Rattle.outside_core.specs.Failed.{Rose}
 use Rattle.host_tree.specs.Entries.{Entries}
@@ -16,6 +16,14 @@ told_map P Q f (Some h) p = f h p
 pub told_both : (P Q : Entries → Type 0) (a : Option Entries) → Told a P → Told a Q → Told a (λ h. P h × Q h)
 told_both P Q None p q = tt
 told_both P Q (Some h) p q = (p, q)
+
+pub told_two : (P Q R : Entries → Type 0) → ((h : Entries) → P h → Q h → R h) → (a : Option Entries) → Told a P → Told a Q → Told a R
+told_two P Q R f None p q = tt
+told_two P Q R f (Some h) p q = f h p q
+
+pub told_three : (P Q R S : Entries → Type 0) → ((h : Entries) → P h → Q h → R h → S h) → (a : Option Entries) → Told a P → Told a Q → Told a R → Told a S
+told_three P Q R S f None p q r = tt
+told_three P Q R S f (Some h) p q r = f h p q r
 
 -- nothing was called
 pub tells_same : (R : Entries → Entries → Type 0) → ((h : Entries) → R h h) → (a : Option Entries) → Tells R a a
@@ -76,3 +84,33 @@ module _ {T : Type 0} where
 
   pub cause_err : {U : Type 0} (a b : ℕ) (e : HostFault) → HasHostCause {T = U} a b (Err e) → HasHostCause {T = T} a b (Err e)
   cause_err {U} a b e cause = record { later = cause.later; failed = λ is. cause.failed (let same : e ≡ Failed = cc in ap (λ (x : HostFault). let r : Result U HostFault = Err x in r) same) }
+
+-- ---- a call's result
+
+pub on_ok : {T E : Type 0} (P Q : Type 0) (r : Result T E) → (P → Q) → OnOk r P → OnOk r Q
+on_ok P Q (Ok x) f p = f p
+on_ok P Q (Err e) f p = p
+
+pub on_err : {T E : Type 0} (P Q : Type 0) (r : Result T E) → (P → Q) → OnErr r P → OnErr r Q
+on_err P Q (Ok x) f p = p
+on_err P Q (Err e) f p = f p
+
+-- a call that went well made the host so
+pub on_ok_made : {T E : Type 0} (P : Entries → Type 0) (R : Entries → Entries → Type 0) (make : Entries → Entries) → ((h : Entries) → P h → R h (make h)) → (a b : Option Entries) (r : Result T E)
+    → Told a P → OnOk r (b ≡ option_map make a) → OnOk r (Tells R a b)
+on_ok_made P R make f a b r p ok = on_ok (b ≡ option_map make a) (Tells R a b) r (λ is. tells_of P R make f a b p is) ok
+
+-- the same behind another change
+pub on_ok_then_made : {T E : Type 0} (P : Entries → Type 0) (R S : Entries → Entries → Type 0) (make : Entries → Entries) → ((h m : Entries) → P h → R h m → S h (make m)) → (a b c : Option Entries) (r : Result T E)
+    → Told a P → Tells R a b → OnOk r (c ≡ option_map make b) → OnOk r (Tells S a c)
+on_ok_then_made P R S make f a b c r p before ok = on_ok (c ≡ option_map make b) (Tells S a c) r (λ is. subst (λ (o : Option Entries). Tells S a o) (sym is) (both a b p before)) ok
+  where
+    both : (x y : Option Entries) → Told x P → Tells R x y → Tells S x (option_map make y)
+    both None None q t = tt
+    both None (Some m) q t = absurd t
+    both (Some h) None q t = absurd t
+    both (Some h) (Some m) q t = f h m q t
+
+pub if_ok : {T E : Type 0} (P Q : T → Type 0) (r : Result T E) → ((x : T) → P x → Q x) → IfOk r P → IfOk r Q
+if_ok P Q (Ok x) f p = f x p
+if_ok P Q (Err e) f p = p
