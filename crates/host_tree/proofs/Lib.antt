@@ -1,2 +1,4 @@
 pub mod PathLemmas
 pub mod EntryLemmas
+pub mod BelowLemmas
+pub mod KeptLemmas

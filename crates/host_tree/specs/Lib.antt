@@ -3,3 +3,5 @@ pub mod Entries
 pub mod Told
 pub mod Acts
 pub mod Faults
+pub mod Below
+pub mod Image

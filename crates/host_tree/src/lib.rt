@@ -1,10 +1,12 @@
 //! Hosts: what stands at the paths of a machine, and the calls that look at it and change it.
 #![tactic(auto)]
 
+mod below;
 mod caps;
 mod entry;
 mod fault;
 mod host;
+mod image;
 mod modes;
 mod paths;
 mod seen;
@@ -13,6 +15,7 @@ pub use caps::Caps;
 pub use entry::Entry;
 pub use fault::HostFault;
 pub use host::Host;
+pub use image::ImageHost;
 pub use modes::Mode;
 pub use paths::Path;
 pub use seen::Seen;
