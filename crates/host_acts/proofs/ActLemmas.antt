@@ -19,7 +19,7 @@ use Rattle.host_acts.specs.Wants as wants
 use Rattle.host_acts.specs.Wants.{IsWanted}
 use Rattle.host_acts.specs.declared.cause.Cause.{Cause}
 use Rattle.host_acts.specs.declared.steps.Step.TheVariants.{Stays, Fails, Changes}
-use Rattle.host_acts.proofs.ChangeLemmas.{without_here, becomes-none, directory_with-after, file_put-after, not_above, updates-at, part-at, wanted-after}
+use Rattle.host_acts.proofs.ChangeLemmas.{without_here, becomes-none, not_above, updates-at, wanted-after}
 use Rattle.host_acts.proofs.KeptLemmas.{none_true}
 use Rattle.host_acts.proofs.PrefixLemmas.{bytes_apart}
 use Rattle.host_acts.proofs.StepLemmas.{lets-directory, says-changes}
@@ -77,66 +77,7 @@ meets_seen work seen is = let both = says-changes work seen is in meets work (is
 
 -- ---- work by kind
 
-pub due-file : (c : Option (List ℕ)) (m : Option ℕ) (r : Bool) (seen : Seen) → step_seen (make_file c m r) seen ≡ Changes → IsNoDirectory (entry_of seen)
-unfolding Meets
-due-file c m r seen is = meets_seen (make_file c m r) seen is
-
-due_missing : (c : Option (List ℕ)) (m : Option ℕ) (seen : Seen) → step_seen (make_missing_file c m) seen ≡ Changes → entry_of seen ≡ None
-unfolding Meets
-due_missing c m seen is = meets_seen (make_missing_file c m) seen is
-
-pub due-missing : (c : Option (List ℕ)) (m : Option ℕ) (seen : Seen) → step_seen (make_missing_file c m) seen ≡ Changes → IsNoDirectory (entry_of seen)
-due-missing c m seen is = subst IsNoDirectory (sym (due_missing c m seen is)) tt
-
-pub due-directory : (m : Option ℕ) (r : Bool) (seen : Seen) → step_seen (make_directory m r) seen ≡ Changes → IsDirectoryOrNone (entry_of seen)
-unfolding Meets
-due-directory m r seen is = meets_seen (make_directory m r) seen is
-
-pub due-link : (to : List ℕ) (seen : Seen) → step_seen (make_link to) seen ≡ Changes → IsLinkOrNone (entry_of seen)
-unfolding Meets
-due-link to seen is = meets_seen (make_link to) seen is
-
-pub update-file : (path : List ℕ) (c : Option (List ℕ)) (m : Option ℕ) (r : Bool) (seen : Seen) (host new : Entries) → step_seen (make_file c m r) seen ≡ Changes → Stands path seen host
-    → Becomes path (file_put c m (entry_of seen)) host new → Updates (task_at path (make_file c m r)) host new
-update-file path c m r seen host new is stands becomes =
-    updates-at (task_at path (make_file c m r)) host new (file_put c m (entry_of seen)) stands.reached
-    (file_put-after c m r (entry_of seen) (due-file c m r seen is) ∙ ap (entry_after (make_file c m r)) (sym stands.here)) becomes
-
-pub update-missing : (path : List ℕ) (c : Option (List ℕ)) (m : Option ℕ) (seen : Seen) (host new : Entries) → step_seen (make_missing_file c m) seen ≡ Changes → Stands path seen host
-    → Becomes path (file_put c m (entry_of seen)) host new → Updates (task_at path (make_missing_file c m)) host new
-update-missing path c m seen host new is stands becomes =
-    let none = due_missing c m seen is in
-    updates-at (task_at path (make_missing_file c m)) host new (file_put c m (entry_of seen)) stands.reached
-    (ap (file_put c m) none ∙ file_put-after c m false None tt ∙ ap (entry_after (make_missing_file c m)) (sym (stands.here ∙ none))) becomes
-
-pub update-directory : (path : List ℕ) (m : Option ℕ) (r : Bool) (seen : Seen) (host new : Entries) → step_seen (make_directory m r) seen ≡ Changes → Stands path seen host
-    → Becomes path (directory_with m (entry_of seen)) host new → Updates (task_at path (make_directory m r)) host new
-update-directory path m r seen host new is stands becomes =
-    updates-at (task_at path (make_directory m r)) host new (directory_with m (entry_of seen)) stands.reached
-    (directory_with-after m r (entry_of seen) (due-directory m r seen is) ∙ ap (entry_after (make_directory m r)) (sym stands.here)) becomes
-
-pub update-link : (path to : List ℕ) (seen : Seen) (host new : Entries) → Stands path seen host → Becomes path (Some (Link to)) host new → Updates (task_at path (make_link to)) host new
-update-link path to seen host new stands becomes = updates-at (task_at path (make_link to)) host new (Some (Link to)) stands.reached refl becomes
-
 -- ---- removals
-
-some_entry : (entry : Option Entry) → (entry ≡ None → ⊥) → (e : Entry) × (entry ≡ Some e)
-some_entry None lacks = absurd (lacks refl)
-some_entry (Some e) lacks = (e, refl)
-
-removal_some : (work : Work) → is_removal work ≡ true → Meets work None → ⊥
-unfolding Meets IsFileOrLink
-removal_some (make_file c m r) is meets = none_true is
-removal_some (make_missing_file c m) is meets = none_true is
-removal_some remove_file is meets = meets
-removal_some (make_directory m r) is meets = none_true is
-removal_some (remove_directory r) is meets = meets
-removal_some (make_link t) is meets = none_true is
-removal_some remove_link is meets = meets
-
-pub due-remove : (path : List ℕ) (work : Work) (seen : Seen) (host : Entries) → is_removal work ≡ true → step_seen work seen ≡ Changes → Stands path seen host → CanRemove host path
-due-remove path work seen host removal changes stands =
-    (stands.reached, some_entry (at host path) (λ is. removal_some work removal (subst (Meets work) (sym stands.here ∙ is) (meets_seen work seen changes))))
 
 file_or_link : (entry : Option Entry) → IsFileOrLink entry → IsDirectory entry → ⊥
 unfolding IsFileOrLink
@@ -193,27 +134,3 @@ update-removed path (remove_directory r) seen host removal changes stands = reco
 }
 update-removed path (make_link t) seen host removal changes stands = none_true removal
 update-removed path remove_link seen host removal changes stands = update-no_directory path remove_link seen host refl (no_directory remove_link path seen host (meets_seen remove_link seen changes) stands) stands
-
-part-same : (task : Task) (host new : Entries) → new ≡ host → IsPart task host new
-part-same task host new same q apart = act.stays (ap (λ (h : Entries). at h q) same)
-
-lost : (path : List ℕ) (r : Bool) (host new : Entries) (q : List ℕ) → LosesPart path host new → Elsewhere (task_at path (remove_directory r)) host new q
-lost path r host new q loses = by (is_above path q) refl
-  where
-    either : is_above path q ≡ true → StaysOrGoes (at host q) (at new q) → Elsewhere (task_at path (remove_directory r)) host new q
-    either is (inl same) = act.stays same
-    either is (inr none) = act.gone is refl none
-
-    by : (b : Bool) → is_above path q ≡ b → Elsewhere (task_at path (remove_directory r)) host new q
-    by true is = either is (loses.below q is)
-    by false is = act.stays (loses.elsewhere q is)
-
-pub part-removed : (path : List ℕ) (work : Work) (seen : Seen) (host new : Entries) → is_removal work ≡ true → step_seen work seen ≡ Changes → Stands path seen host → LosesPart path host new → IsPart (task_at path work) host new
-unfolding Meets
-part-removed path (make_file c m r) seen host new removal changes stands loses = none_true removal
-part-removed path (make_missing_file c m) seen host new removal changes stands loses = none_true removal
-part-removed path remove_file seen host new removal changes stands loses = part-same (task_at path remove_file) host new (loses.directory (no_directory remove_file path seen host (meets_seen remove_file seen changes) stands))
-part-removed path (make_directory m r) seen host new removal changes stands loses = none_true removal
-part-removed path (remove_directory r) seen host new removal changes stands loses = λ q apart. lost path r host new q loses
-part-removed path (make_link t) seen host new removal changes stands loses = none_true removal
-part-removed path remove_link seen host new removal changes stands loses = part-same (task_at path remove_link) host new (loses.directory (no_directory remove_link path seen host (meets_seen remove_link seen changes) stands))

@@ -158,14 +158,6 @@ module _ (path : List ℕ) (found : Break) (host mid : Entries) (end : ℕ) (bre
       others = λ other. others_at (bytes_eq other (take end path)) other refl;
     }
 
--- what was made so far is a part
-pub built_part : (path : List ℕ) (end : ℕ) (host new : Entries) → BuiltUpTo path end host new → BuiltPart path host new
-built_part path end host new built other = part (built.others other)
-  where
-    part : StaysOrIsMade (λ p. (is_above p path ≡ true) × (length p < end)) host new other → StaysOrIsMade (λ p. is_above p path ≡ true) host new other
-    part (inl same) = inl same
-    part (inr (short, was, is)) = inr (short.0, was, is)
-
 -- a prefix is made where one ends, and nothing where none does
 pub makes_one : (path : List ℕ) (end : ℕ) (host : Entries) → get_or path end 0 ≡ 47 → MakesPrefix path end host (with_directory (take end path) host)
 makes_one path end host slash = record {
@@ -173,9 +165,6 @@ makes_one path end host slash = record {
   others = λ other apart.
       at-with_directory (take end path) host other ∙ ap (λ (b : Bool). cond b (Some (Directory 493)) (at host other)) (bytes_apart other (take end path) (apart slash));
 }
-
-pub makes_none : (path : List ℕ) (end : ℕ) (host : Entries) → get_or path end 0 ≢ 47 → MakesPrefix path end host host
-makes_none path end host plain = record { here = λ slash. absurd (plain slash); others = λ other apart. refl }
 
 -- ---- an act behind the prefixes that were made
 
@@ -239,14 +228,6 @@ module _ (task : Task) (host mid : Entries) (found : Break) (breaks : BreaksAt h
       elsewhere = built_then_part new done.2.elsewhere;
     },
   )
-
--- prefixes that were made are a part of the act
-pub built_is_part : (task : Task) (host new : Entries) → makes_prefixes task.work ≡ true → BuiltPart task.path host new → IsPart task host new
-built_is_part task host new makes built q apart = part (built q)
-  where
-    part : StaysOrIsMade (λ p. is_above p task.path ≡ true) host new q → Elsewhere task host new q
-    part (inl same) = act.stays same
-    part (inr (above, was, is)) = act.made above makes was is
 
 pub makes_prefix : (path prefix : List ℕ) (end : ℕ) (host : Entries) → prefix ≡ take end path → get_or path end 0 ≡ 47 → MakesPrefix path end host (with_directory prefix host)
 makes_prefix path prefix end host is slash = subst (λ (p : List ℕ). MakesPrefix path end host (with_directory p host)) (sym is) (makes_one path end host slash)

@@ -65,16 +65,6 @@ sets-mode path mode host = record {
   others = λ other apart. at-with_mode path mode host other ∙ put_there path other _ _ apart;
 }
 
-with_none : (entry : Option Entry) → option_map (with_due None) entry ≡ entry
-with_none None = refl
-with_none (Some e) = refl
-
-pub sets-none : (path : List ℕ) (host : Entries) → SetsDue path None host host
-sets-none path host = record { here = sym (with_none (at host path)); others = λ other apart. refl }
-
-pub becomes-same : (path : List ℕ) (host : Entries) → Becomes path (at host path) host host
-becomes-same path host = record { here = refl; others = λ other apart. refl }
-
 -- where a host has no directory, nothing is below
 pub nothing_below : (host : Entries) (path q : List ℕ) → IsHost host → (IsDirectory (at host path) → ⊥) → is_above path q ≡ true → at host q ≡ None
 nothing_below host path q whole lacks below = by (at host q) refl
@@ -103,28 +93,11 @@ becomes-none path host whole lacks = record {
 
 -- ---- an act's work as a change at one path
 
-pub unlinked-kept : (path : List ℕ) (seen : Seen) (host new : Entries) → Stands path seen host → Becomes path (unlinked (entry_of seen)) host new → IsUnlinked path (entry_of seen) new
-unlinked-kept path seen host new stands becomes = record { reached = reached-kept path host new becomes.others stands.reached; here = becomes.here }
-
 pub kept_then : (path : List ℕ) (host mid new : Entries) → KeepsOthers path host mid → KeepsOthers path mid new → KeepsOthers path host new
 kept_then path host mid new one other q apart = other q apart ∙ one q apart
 
 pub becomes_then : (path : List ℕ) (one other : Option Entry) (host mid new : Entries) → Becomes path one host mid → Becomes path other mid new → Becomes path other host new
 becomes_then path one other host mid new first second = record { here = second.here; others = kept_then path host mid new first.others second.others }
-
-pub sets_then : (path : List ℕ) (due : Option ℕ) (entry : Option Entry) (host mid new : Entries) → Becomes path entry host mid → SetsDue path due mid new → Becomes path (option_map (with_due due) entry) host new
-sets_then path due entry host mid new first second = record { here = second.here ∙ ap (option_map (with_due due)) first.here; others = kept_then path host mid new first.others second.others }
-
--- what a file that keeps its content is
-given-fits : (content : Option (List ℕ)) (before : List ℕ) → fits_text content before ≡ true → given content before ≡ before
-given-fits None before is = refl
-given-fits (Some text) before is = (bytes_decides text before).0 is
-
-pub kept-content : (content : Option (List ℕ)) (entry : Option Entry) → is_kept content entry ≡ true → content_put content entry ≡ unlinked entry
-kept-content content None is = none_true is
-kept-content content (Some (File d n)) is = ap (λ (t : List ℕ). Some (File t n)) (given-fits content d is)
-kept-content content (Some (Directory n)) is = none_true is
-kept-content content (Some (Link t)) is = none_true is
 
 given-differs : (content : Option (List ℕ)) (before : List ℕ) → fits_text content before ≡ false → given content [] ≡ given content before
 given-differs None before is = absurd (true≢false is)
@@ -136,57 +109,7 @@ new-content content (Some (File d n)) lacks is = ap (λ (t : List ℕ). Some (Fi
 new-content content (Some (Directory n)) lacks is = absurd lacks
 new-content content (Some (Link t)) lacks is = refl
 
-pub unlinked-file : (entry : Option Entry) → IsNoDirectory entry → IsFileOrNone (unlinked entry)
-unlinked-file None lacks = tt
-unlinked-file (Some (File d n)) lacks = tt
-unlinked-file (Some (Directory n)) lacks = absurd lacks
-unlinked-file (Some (Link t)) lacks = tt
-
-pub content-mode : (content : Option (List ℕ)) (entry : Option Entry) → HasMode (content_put content entry)
-content-mode content None = tt
-content-mode content (Some (File d n)) = tt
-content-mode content (Some (Directory n)) = tt
-content-mode content (Some (Link t)) = tt
-
-pub directory-mode : (entry : Option Entry) → IsDirectoryOrNone entry → HasMode (directory_put entry)
-directory-mode None is = tt
-directory-mode (Some (File d n)) is = absurd is
-directory-mode (Some (Directory n)) is = tt
-directory-mode (Some (Link t)) is = absurd is
-
 -- ---- what the calls make is what the work makes
-
-mode_given : (mode : Option ℕ) (content : List ℕ) (bits : ℕ) → with_due mode (File content bits) ≡ File content (given mode bits)
-mode_given None content bits = refl
-mode_given (Some m) content bits = refl
-
-directory_given : (mode : Option ℕ) (bits : ℕ) → with_due mode (Directory bits) ≡ Directory (given mode bits)
-directory_given None bits = refl
-directory_given (Some m) bits = refl
-
-mode_fits : (mode : Option ℕ) (bits : ℕ) → fits_mode mode bits ≡ true → bits ≡ given mode bits
-mode_fits None bits is = refl
-mode_fits (Some m) bits is = fits_mode-true (Some m) bits is
-
-due_file : (mode : Option ℕ) (content : List ℕ) (bits : ℕ) (b : Bool) → fits_mode mode bits ≡ b → with_due (cond b None mode) (File content bits) ≡ File content (given mode bits)
-due_file mode content bits true is = ap (File content) (mode_fits mode bits is)
-due_file mode content bits false is = mode_given mode content bits
-
-due_directory : (mode : Option ℕ) (bits : ℕ) (b : Bool) → fits_mode mode bits ≡ b → with_due (cond b None mode) (Directory bits) ≡ Directory (given mode bits)
-due_directory mode bits true is = ap Directory (mode_fits mode bits is)
-due_directory mode bits false is = directory_given mode bits
-
-pub file_put-after : (content : Option (List ℕ)) (mode : Option ℕ) (replaces : Bool) (entry : Option Entry) → IsNoDirectory entry → file_put content mode entry ≡ entry_after (make_file content mode replaces) entry
-file_put-after content mode replaces None lacks = ap Some (mode_given mode (given content []) 420)
-file_put-after content mode replaces (Some (File d n)) lacks = ap Some (due_file mode (given content d) n (fits_mode mode n) refl)
-file_put-after content mode replaces (Some (Directory n)) lacks = absurd lacks
-file_put-after content mode replaces (Some (Link t)) lacks = ap Some (mode_given mode (given content []) 420)
-
-pub directory_with-after : (mode : Option ℕ) (recursive : Bool) (entry : Option Entry) → IsDirectoryOrNone entry → directory_with mode entry ≡ entry_after (make_directory mode recursive) entry
-directory_with-after mode recursive None is = ap Some (directory_given mode 493)
-directory_with-after mode recursive (Some (File d n)) is = absurd is
-directory_with-after mode recursive (Some (Directory n)) is = ap Some (due_directory mode n (fits_mode mode n) refl)
-directory_with-after mode recursive (Some (Link t)) is = absurd is
 
 -- ---- what the work makes is what it wants
 
@@ -222,9 +145,6 @@ updates-at task host new entry reached is becomes = record {
   here = becomes.here ∙ is;
   elsewhere = λ path apart. act.stays (becomes.others path apart);
 }
-
-pub part-at : (task : Task) (host new : Entries) → KeepsOthers task.path host new → IsPart task host new
-part-at task host new kept path apart = act.stays (kept path apart)
 
 -- ---- the calls of one act, by what was seen
 

@@ -3,13 +3,16 @@ use Rattle.std.proofs.Common.{◌≡◌, ◌⊎◌, inl, inr, ℕ, ◌+◌, ◌<
 use Rattle.std.proofs.lemmas.Bool.{cases_lt, eqb-true, eq-eqb}
 use Rattle.std.proofs.lemmas.List.{length-take-le}
 use Rattle.host_tree.proofs.PathLemmas.{above-trans}
-use Rattle.host_tree.specs.Entries.{Entries, at, IsDirectory, IsHost}
+use Rattle.host_tree.specs.Acts.{entry_of, sight}
+use Rattle.host_tree.specs.Entries.{Entries, at, has_below, IsDirectory, IsHost}
 use Rattle.host_tree.specs.Paths.{is_above}
 use Rattle.host_tree.specs.declared.entry.Entry.{Entry}
 use Rattle.host_tree.specs.declared.entry.Entry.TheVariants.{File, Directory, Link}
+use Rattle.host_tree.specs.declared.seen.Seen.{Seen}
 use Rattle.host_acts.specs.Scanning.{BreaksAt, obstacle_ending, obstacle_in}
 use Rattle.host_acts.specs.declared.scanning.Break.{Break}
 use Rattle.host_acts.specs.declared.scanning.Obstacle.{Obstacle}
+use Rattle.host_acts.proofs.StepLemmas.{entry_of-sight}
 use Rattle.host_acts.proofs.PrefixLemmas.{above-shorter, above-slash, above-take, take-above}
 
 -- each proper prefix that is shorter than this is a directory
@@ -53,3 +56,10 @@ module _ (path : List ℕ) (end : ℕ) (host : Entries) (first : 0 < end) (withi
 
 pub scan-all : (path : List ℕ) (end : ℕ) (host : Entries) → length path ≤ end → ReachesTo path end host → (prefix : List ℕ) → is_above prefix path ≡ true → IsDirectory (at host prefix)
 scan-all path end host long reach prefix above = reach prefix above (let shorter = above-shorter prefix path above in omega (arith, shorter, long))
+
+-- what was seen at the prefix that ends here is what is looked for
+pub sees-obstacle : (path prefix : List ℕ) (end : ℕ) (host : Entries) (seen : Seen) (found : Option Obstacle) → get_or path end 0 ≡ 47 → prefix ≡ take end path → found ≡ obstacle_in (entry_of seen)
+    → seen ≡ sight (has_below host prefix) (at host prefix) → found ≡ obstacle_ending host path end
+sees-obstacle path prefix end host seen found slash is result sees =
+    result ∙ ap (λ (s : Seen). obstacle_in (entry_of s)) sees ∙ ap obstacle_in (entry_of-sight (has_below host prefix) (at host prefix)) ∙ ap (λ (p : List ℕ). obstacle_in (at host p)) is
+    ∙ sym (ap (λ (b : Bool). cond b (obstacle_in (at host (take end path))) None) (eq-eqb (get_or path end 0) 47 slash))
