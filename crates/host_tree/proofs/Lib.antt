@@ -2,3 +2,5 @@ pub mod PathLemmas
 pub mod EntryLemmas
 pub mod BelowLemmas
 pub mod KeptLemmas
+mod SpellingLemmas
+mod ImageLemmas

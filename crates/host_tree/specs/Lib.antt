@@ -5,3 +5,8 @@ pub mod Acts
 pub mod Faults
 pub mod Below
 pub mod Image
+pub mod Modes
+pub mod Documents
+pub mod Failures
+pub mod Faulty
+pub mod Outcomes

@@ -1,4 +1,4 @@
-ghost use Rattle.std.specs.Prelude.{◌≡◌, ℕ, List, true, IfOk, OnOk, OnErr, Some, option_copied, option_map, cond};
+ghost use Rattle.std.specs.Prelude.{◌≡◌, ℕ, List, true, IsTrue, IfOk, OnOk, OnErr, Some, option_copied, option_map, cond};
 ghost use Rattle.std.specs.BTreeMap.{get, is_at};
 ghost use Rattle.std.specs.Cmp.Lexicographic.{slice_cmp};
 ghost use Rattle.std.specs.Ordering.{nat_cmp};
@@ -6,6 +6,7 @@ ghost use Rattle.std.specs.FinMap as finite;
 ghost use Rattle.host_tree.specs.Acts.{written, moded, with_mode, without};
 ghost use Rattle.host_tree.specs.Entries.{at, has_below, IsHost};
 ghost use Rattle.host_tree.specs.Image.{CanPut, HasNoneBelow, IsLastBelow, LosesBelow};
+ghost use Rattle.host_tree.specs.Paths.{is_normal};
 ghost use Rattle.host_tree.specs.declared.entry.Entry.TheVariants as entry;
 
 use crate::below::Ends;
@@ -54,11 +55,11 @@ impl ImageHost {
     }
 
     /// What stands at a path.
-    fn held(&self, path: &Path) -> Option<&Entry>
+    pub(crate) fn held(&self, path: &Text) -> Option<&Entry>
         ensures value { option_copied result ≡ at self.now path.now }
         ensures host { IsHost self.now }
     {
-        self.entries.get(path.as_text())
+        self.entries.get(path)
     }
 
     /// Whether something stands below a path.
@@ -80,12 +81,13 @@ impl ImageHost {
     }
 
     /// Puts an entry at a path, in place of what stands there.
-    fn put(&mut self, alloc: Global, path: &Path, entry: Entry) -> Result<(), NoMemory>
-        requires { CanPut self.old path.now entry }
+    pub(crate) fn put(&mut self, alloc: Global, path: &Text, entry: Entry) -> Result<(), NoMemory>
+        requires normal { IsTrue (is_normal path.now) }
+        requires fits { CanPut self.old path.now entry }
         ensures ok { OnOk result (self.new ≡ finite.insert self.old path.now entry) }
         ensures err { OnErr result (self.new ≡ self.old) }
     {
-        let path = path.as_text().copy(alloc)?;
+        let path = path.copy(alloc)?;
         self.entries.insert(path, entry)?;
         Ok(())
     }
@@ -96,7 +98,7 @@ impl ImageHost {
     fn file_mode(&self, path: &Path) -> Mode
         ensures { (content : List ℕ) → written content (at self.now path.now) ≡ entry.File content result }
     {
-        match self.held(path) {
+        match self.held(path.as_text()) {
             Some(Entry::File { content: _, mode }) => *mode,
             _ => Mode::known(0o644),
         }
@@ -179,7 +181,7 @@ impl Host for ImageHost {
     }
 
     fn look(&mut self, alloc: Global, path: &Path) -> Result<Seen, HostFault> {
-        match self.held(path) {
+        match self.held(path.as_text()) {
             None => Ok(Seen::Absent),
             Some(Entry::File { content, mode }) => Ok(Seen::FileThere {
                 content: Bytes::from_slice(alloc, content.as_bytes())?,
@@ -198,19 +200,19 @@ impl Host for ImageHost {
     fn write_file(&mut self, alloc: Global, path: &Path, content: &Text) -> Result<(), HostFault> {
         let content = content.copy(alloc)?;
         let mode = self.file_mode(path);
-        self.put(alloc, path, Entry::File { content, mode })?;
+        self.put(alloc, path.as_text(), Entry::File { content, mode })?;
         Ok(())
     }
 
     fn make_dir(&mut self, alloc: Global, path: &Path) -> Result<(), HostFault> {
         let mode = Mode::known(0o755);
-        self.put(alloc, path, Entry::Directory { mode })?;
+        self.put(alloc, path.as_text(), Entry::Directory { mode })?;
         Ok(())
     }
 
     fn make_link(&mut self, alloc: Global, path: &Path, to: &Text) -> Result<(), HostFault> {
         let to = to.copy(alloc)?;
-        self.put(alloc, path, Entry::Link { to })?;
+        self.put(alloc, path.as_text(), Entry::Link { to })?;
         Ok(())
     }
 
