@@ -9,6 +9,8 @@ mod needs;
 mod prefixes;
 mod scanning;
 mod steps;
+#[cfg(test)]
+mod tests;
 mod verdict;
 mod works;
 
