@@ -1,0 +1,12 @@
+pub mod Paths
+pub mod Entries
+pub mod Told
+pub mod Acts
+pub mod Faults
+pub mod Below
+pub mod Image
+pub mod Modes
+pub mod Documents
+pub mod Failures
+pub mod Faulty
+pub mod Outcomes
