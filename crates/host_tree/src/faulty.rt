@@ -50,8 +50,15 @@ impl FaultyHost {
         }
     }
 
+    /// What it holds.
+    pub fn image_host(&self) -> &ImageHost
+        ensures { result.now ≡ self.now.host }
+    {
+        &self.host
+    }
+
     /// What it holds, which is moved out.
-    pub fn into_image(self) -> ImageHost
+    pub fn into_image_host(self) -> ImageHost
         ensures { result ≡ self.host }
     {
         let FaultyHost {
