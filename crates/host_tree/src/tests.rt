@@ -269,11 +269,9 @@ file 420 a;done;done;done;done;done;{"/e":{"mode":"0755","type":"directory"},"/f
 
 #[test]
 fn each_call_can_fail_alone(rt: HostRuntime) -> Result<(), Fail> {
-    let mut number = 0;
-    for expected in FAILED.lines() {
-        let told = with_failing(rt.alloc(), number)?;
+    for (number, expected) in FAILED.lines().enumerate() {
+        let told = with_failing(rt.alloc(), number as u64)?;
         assert_eq!(rt; told.as_str(), expected, "with {number}");
-        number += 1;
     }
     Ok(())
 }
