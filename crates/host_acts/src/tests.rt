@@ -7,7 +7,8 @@ use std::alloc::{AllocError, Global};
 use std::test::Fail;
 
 // An image, an act, what it comes to, and the image that it leaves.
-const CASES: &str = r#"{} | {"type":"file","do":"create","path":"/f"} => updated | {"/f":{"content":"","mode":"0644","type":"file"}}
+const CASES: &str =
+    r#"{} | {"type":"file","do":"create","path":"/f"} => updated | {"/f":{"content":"","mode":"0644","type":"file"}}
 {} | {"type":"file","do":"create","path":"/f","content":"x","mode":384} => updated | {"/f":{"content":"x","mode":"0600","type":"file"}}
 {"/f":{"content":"x","mode":"0600","type":"file"}} | {"type":"file","do":"create","path":"/f","content":"x"} => up to date | {"/f":{"content":"x","mode":"0600","type":"file"}}
 {"/f":{"content":"x","mode":"0600","type":"file"}} | {"type":"file","do":"create","path":"/f","content":"y"} => updated | {"/f":{"content":"y","mode":"0600","type":"file"}}
@@ -241,7 +242,10 @@ fn a_fault_leaves_the_parents_that_were_made(rt: HostRuntime) -> Result<(), Fail
         modes: true,
     };
     let told = faulty_told(rt.alloc(), 2, caps)?;
-    assert_eq!(rt; told.as_str(), r#"fault {"/p":{"mode":"0755","type":"directory"}}"#);
+    assert_eq!(rt;
+        told.as_str(),
+        r#"fault {"/p":{"mode":"0755","type":"directory"}}"#
+    );
     Ok(())
 }
 
