@@ -1,0 +1,5 @@
+pub mod Paths
+pub mod Entries
+pub mod Told
+pub mod Acts
+pub mod Faults
