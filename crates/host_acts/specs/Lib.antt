@@ -1,0 +1,5 @@
+pub mod Causes
+pub mod Wants
+pub mod Tasks
+pub mod Acts
+pub mod Agreeing

@@ -1,0 +1,14 @@
+//! Single acts of resources over hosts: what one action of one resource is to do, and how it is done.
+#![tactic(auto)]
+
+mod acts;
+mod cause;
+mod laws;
+mod needs;
+mod verdict;
+
+pub use acts::perform;
+pub use cause::Cause;
+pub use laws::{agreeing_wants_suit, updates_keep_what_suits, wants_that_agree_by_path_suit};
+pub use needs::needs_of;
+pub use verdict::Verdict;
