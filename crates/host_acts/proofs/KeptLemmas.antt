@@ -14,7 +14,7 @@ use Rattle.host_acts.specs.Tasks.{Task, Work, make_file, make_missing_file, remo
 use Rattle.host_acts.specs.Wants as wants
 use Rattle.host_acts.specs.Wants.{Fits, Holds, IsNoLink, IsWanted, LetsBe, Want, Wanted}
 
-none_true : {P : Type 0} → false ≡ true → P
+pub none_true : {P : Type 0} → false ≡ true → P
 none_true h = absurd (true≢false (sym h))
 
 -- ---- what the change keeps at its own path
@@ -119,7 +119,7 @@ absent_of_none (wants.file c m) lets = absurd lets
 absent_of_none (wants.directory m) lets = absurd lets
 absent_of_none (wants.link t) lets = absurd lets
 
-lets_directory : (want : Want) (mode : ℕ) → LetsBe want (Some (Directory mode))
+pub lets_directory : (want : Want) (mode : ℕ) → LetsBe want (Some (Directory mode))
 lets_directory wants.absent mode = tt
 lets_directory (wants.file c m) mode = tt
 lets_directory (wants.directory m) mode = tt

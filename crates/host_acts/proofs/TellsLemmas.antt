@@ -1,12 +1,7 @@
--- What is said of a host that may tell, from call to call; and the count of faults over several calls.
-use Rattle.std.proofs.Common.{◌≡◌, ◌⊎◌, inl, inr, ℕ, ◌+◌, ◌<◌, ◌≤◌, List, Option, Some, None, option_map, Result, Ok, Err, OnOk, OnErr, refl, sym, ap, subst, ◌∙◌, arith}
-use Rattle.outside_core.proofs.FailedLemmas.{Rose-from}
-use Rattle.outside_core.specs.Failed.{Rose}
+-- What is said of a host that may tell, from call to call.
+use Rattle.std.proofs.Common.{◌≡◌, ◌⊎◌, inl, inr, ℕ, ◌+◌, ◌<◌, ◌≤◌, List, Option, Some, None, option_map, Result, Ok, Err, IfOk, OnOk, OnErr, refl, sym, ap, subst, ◌∙◌, arith}
 use Rattle.host_tree.specs.Entries.{Entries}
-use Rattle.host_tree.specs.Faults.{HasHostCause}
 use Rattle.host_tree.specs.Told.{Told, Tells}
-use Rattle.host_tree.specs.declared.fault.HostFault.{HostFault}
-use Rattle.host_tree.specs.declared.fault.HostFault.TheVariants.{Failed, NoMemory}
 
 -- what follows of a told host follows of one that may tell
 pub told_map : (P Q : Entries → Type 0) → ((h : Entries) → P h → Q h) → (a : Option Entries) → Told a P → Told a Q
@@ -17,10 +12,13 @@ pub told_both : (P Q : Entries → Type 0) (a : Option Entries) → Told a P →
 told_both P Q None p q = tt
 told_both P Q (Some h) p q = (p, q)
 
--- nothing was called
-pub tells_same : (R : Entries → Entries → Type 0) → ((h : Entries) → R h h) → (a : Option Entries) → Tells R a a
-tells_same R f None = tt
-tells_same R f (Some h) = f h
+pub told_two : (P Q R : Entries → Type 0) → ((h : Entries) → P h → Q h → R h) → (a : Option Entries) → Told a P → Told a Q → Told a R
+told_two P Q R f None p q = tt
+told_two P Q R f (Some h) p q = f h p q
+
+pub told_three : (P Q R S : Entries → Type 0) → ((h : Entries) → P h → Q h → R h → S h) → (a : Option Entries) → Told a P → Told a Q → Told a R → Told a S
+told_three P Q R S f None p q r = tt
+told_three P Q R S f (Some h) p q r = f h p q r
 
 -- the host stays, and of what it tells something is known
 pub tells_stays : (P : Entries → Type 0) (R : Entries → Entries → Type 0) → ((h : Entries) → P h → R h h) → (a b : Option Entries) → Told a P → b ≡ a → Tells R a b
@@ -61,18 +59,28 @@ told_then P R Q f None (Some n) p r = absurd r
 told_then P R Q f (Some h) None p r = absurd r
 told_then P R Q f (Some h) (Some n) p r = f h n p r
 
--- ---- the count
+-- ---- a call's result
 
-module _ {T : Type 0} where
-  -- what came later has its cause, so all has
-  pub cause_then : (a b c : ℕ) (r : Result T HostFault) → a ≤ b → HasHostCause b c r → HasHostCause a c r
-  cause_then a b c r before cause = record { later = omega (arith, cause.later); failed = λ is. Rose-from a b c before (cause.failed is) }
+pub on_ok : {T E : Type 0} (P Q : Type 0) (r : Result T E) → (P → Q) → OnOk r P → OnOk r Q
+on_ok P Q (Ok x) f p = f p
+on_ok P Q (Err e) f p = p
 
-  pub cause_ok : (a b : ℕ) (x : T) → a ≤ b → HasHostCause a b (Ok x)
-  cause_ok a b x later = record { later = later; failed = λ is. cc }
+-- a call that went well made the host so
+pub on_ok_made : {T E : Type 0} (P : Entries → Type 0) (R : Entries → Entries → Type 0) (make : Entries → Entries) → ((h : Entries) → P h → R h (make h)) → (a b : Option Entries) (r : Result T E)
+    → Told a P → OnOk r (b ≡ option_map make a) → OnOk r (Tells R a b)
+on_ok_made P R make f a b r p ok = on_ok (b ≡ option_map make a) (Tells R a b) r (λ is. tells_of P R make f a b p is) ok
 
-  pub cause_memory : (a b : ℕ) → a ≤ b → HasHostCause {T = T} a b (Err NoMemory)
-  cause_memory a b later = record { later = later; failed = λ is. cc }
+-- the same behind another change
+pub on_ok_then_made : {T E : Type 0} (P : Entries → Type 0) (R S : Entries → Entries → Type 0) (make : Entries → Entries) → ((h m : Entries) → P h → R h m → S h (make m)) → (a b c : Option Entries) (r : Result T E)
+    → Told a P → Tells R a b → OnOk r (c ≡ option_map make b) → OnOk r (Tells S a c)
+on_ok_then_made P R S make f a b c r p before ok = on_ok (c ≡ option_map make b) (Tells S a c) r (λ is. subst (λ (o : Option Entries). Tells S a o) (sym is) (both a b p before)) ok
+  where
+    both : (x y : Option Entries) → Told x P → Tells R x y → Tells S x (option_map make y)
+    both None None q t = tt
+    both None (Some m) q t = absurd t
+    both (Some h) None q t = absurd t
+    both (Some h) (Some m) q t = f h m q t
 
-  pub cause_err : {U : Type 0} (a b : ℕ) (e : HostFault) → HasHostCause {T = U} a b (Err e) → HasHostCause {T = T} a b (Err e)
-  cause_err {U} a b e cause = record { later = cause.later; failed = λ is. cause.failed (let same : e ≡ Failed = cc in ap (λ (x : HostFault). let r : Result U HostFault = Err x in r) same) }
+pub if_ok : {T E : Type 0} (P Q : T → Type 0) (r : Result T E) → ((x : T) → P x → Q x) → IfOk r P → IfOk r Q
+if_ok P Q (Ok x) f p = f x p
+if_ok P Q (Err e) f p = p

@@ -3,3 +3,7 @@ pub mod Wants
 pub mod Tasks
 pub mod Acts
 pub mod Agreeing
+pub mod Works
+pub mod Scanning
+pub mod Steps
+pub mod Changes

@@ -3,9 +3,16 @@
 
 mod acts;
 mod cause;
+mod changes;
 mod laws;
 mod needs;
+mod prefixes;
+mod scanning;
+mod steps;
+#[cfg(test)]
+mod tests;
 mod verdict;
+mod works;
 
 pub use acts::perform;
 pub use cause::Cause;

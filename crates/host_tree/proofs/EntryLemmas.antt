@@ -1,13 +1,14 @@
 -- What stands at each path after a change, and that a host stays one.
-use Rattle.std.proofs.Common.{◌≡◌, ◌⊎◌, inl, inr, ℕ, Bool, true, false, cond, not, ◌||◌, IsTrue, List, [], ◌∷◌, Option, Some, None, nat_cmp, bytes_eq, option_map, refl, sym, ap, subst, ◌∙◌}
-use Rattle.std.proofs.lemmas.Bool.{cases_Bool, or_cases, or_left, or_right, or_parts, true≢false}
+use Rattle.std.proofs.Common.{◌≡◌, ◌⊎◌, inl, inr, ℕ, Bool, true, false, cond, not, ◌||◌, IsTrue, List, Option, Some, None, bytes_eq, option_map, refl, sym, ap, subst, ◌∙◌}
+use Rattle.std.proofs.lemmas.Bool.{or_cases, or_right, true≢false}
 use Rattle.std.proofs.lemmas.Cmp.{nat_list_cmp_total}
-use Rattle.std.specs.Cmp.Lexicographic.{slice_cmp, bytes_decides}
+use Rattle.std.specs.Cmp.Lexicographic.{bytes_decides}
 use Rattle.std.specs.FinMap as finite
 use Rattle.std.specs.FinMap.{get-insert, get-remove, get-retain_keys, same_map, slice_cmp-IsAntisymmetric, nat_cmp-IsAntisymmetric}
 use Rattle.doc_tree.proofs.Maps.{eq_by_cmp-text}
-use Rattle.host_tree.specs.Acts.{written, moded, with_file, with_directory, with_link, with_mode, with_mode_at, without, IsReached, IsFileOrNone, CanWrite, CanMake, CanSetMode, HasMode}
+use Rattle.host_tree.specs.Acts.{written, moded, with_file, with_directory, with_link, with_mode, with_mode_at, without, IsReached, IsFileOrNone, CanWrite, CanMake}
 use Rattle.host_tree.specs.Entries.{Entries, at, IsDirectory, IsHost}
+use Rattle.host_tree.specs.Image.{CanPut}
 use Rattle.host_tree.specs.Paths.{is_normal, is_above}
 use Rattle.host_tree.specs.declared.entry.Entry.{Entry}
 use Rattle.host_tree.specs.declared.entry.Entry.TheVariants.{File, Directory, Link}
@@ -97,11 +98,31 @@ file_directory (Some (File content mode)) entry is was = absurd was
 file_directory (Some (Directory mode)) entry is was = absurd is
 file_directory (Some (Link to)) entry is was = absurd was
 
+pub can_put-written : (path : List ℕ) (entry : Entry) (host : Entries) → CanWrite host path → CanPut host path entry
+can_put-written path entry host can = (can.0, file_directory (at host path) entry can.1)
+
+pub can_put-made : (path : List ℕ) (entry : Entry) (host : Entries) → CanMake host path → CanPut host path entry
+can_put-made path entry host can = (can.0, none_directory (at host path) entry can.1)
+
 pub host-with_file : (path content : List ℕ) (host : Entries) → IsHost host → IsTrue (is_normal path) → CanWrite host path → IsHost (with_file path content host)
 host-with_file path content host whole normal can = host-put path (written content (at host path)) host whole normal can.0 (file_directory (at host path) (written content (at host path)) can.1)
 
 pub host-made : (path : List ℕ) (entry : Entry) (host : Entries) → IsHost host → IsTrue (is_normal path) → CanMake host path → IsHost (finite.insert host path entry)
 host-made path entry host whole normal can = host-put path entry host whole normal can.0 (none_directory (at host path) entry can.1)
+
+moded_directory : (mode : ℕ) (entry : Entry) → IsDirectory (Some entry) → IsDirectory (Some (moded mode entry))
+moded_directory mode (File content before) is = is
+moded_directory mode (Directory before) is = is
+moded_directory mode (Link to) is = is
+
+host-with_mode_at : (found : Option Entry) (path : List ℕ) (mode : ℕ) (host : Entries) → at host path ≡ found → IsHost host → IsHost (with_mode_at found path mode host)
+host-with_mode_at None path mode host is whole = whole
+host-with_mode_at (Some entry) path mode host is whole =
+    let parts = whole path entry is in
+    host-put path (moded mode entry) host whole parts.0 parts.1 (λ was. moded_directory mode entry (subst IsDirectory is was))
+
+pub host-with_mode : (path : List ℕ) (mode : ℕ) (host : Entries) → IsHost host → IsHost (with_mode path mode host)
+host-with_mode path mode host whole = host-with_mode_at (at host path) path mode host refl whole
 
 -- what is gone takes what is below it along, so what stays has its parents
 host-without_at : (b : Bool) (path above q : List ℕ) (host : Entries) → is_within path above ≡ b → is_above above q ≡ true → is_within path q ≡ false → IsDirectory (at host above)

@@ -3,3 +3,10 @@ pub mod Entries
 pub mod Told
 pub mod Acts
 pub mod Faults
+pub mod Below
+pub mod Image
+pub mod Modes
+pub mod Documents
+pub mod Failures
+pub mod Faulty
+pub mod Outcomes

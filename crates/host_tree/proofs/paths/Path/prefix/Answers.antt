@@ -1,4 +1,3 @@
-use Rattle.std.proofs.Common.{rules}
 use Rattle.host_tree.proofs.PathLemmas.{normal-prefix}
 use Rattle.host_tree.proofs.paths.Path.prefix.Goals as goal
 

@@ -1,0 +1,136 @@
+-- What each kind of work meets where it is to change something, and what it makes.
+use Rattle.std.proofs.Common.{◌≡◌, ◌≢◌, ◌⊎◌, inl, inr, ℕ, Bool, true, false, cond, not, ◌&&◌, ◌||◌, IsTrue, is_some, List, [], Option, Some, None, bytes_eq, refl, sym, ap, subst, ◌∙◌}
+use Rattle.std.proofs.lemmas.Bool.{true≢false}
+use Rattle.host_tree.proofs.EntryLemmas.{at-without}
+use Rattle.host_tree.proofs.PathLemmas.{above-trans, above-itself}
+use Rattle.host_tree.specs.Acts.{CanRemove, IsReached, LosesPart, StaysOrGoes, entry_of, sight, without}
+use Rattle.host_tree.specs.Entries.{Entries, at, has_below, IsDirectory, IsHost}
+use Rattle.host_tree.specs.Paths.{is_above}
+use Rattle.host_tree.specs.declared.caps.Caps.{Caps}
+use Rattle.host_tree.specs.declared.entry.Entry.{Entry}
+use Rattle.host_tree.specs.declared.entry.Entry.TheVariants.{File, Directory, Link}
+use Rattle.host_tree.specs.declared.seen.Seen.{Seen}
+use Rattle.host_acts.specs.Acts as act
+use Rattle.host_acts.specs.Acts.{Elsewhere, IsDone, IsPart, Updates, cause_here, entry_after, is_removal}
+use Rattle.host_acts.specs.Changes.{Becomes, IsDirectoryOrNone, IsLinkOrNone, IsNoDirectory, KeepsOthers, Stands, directory_with, file_put}
+use Rattle.host_acts.specs.Steps.{is_filled, step_here, step_seen}
+use Rattle.host_acts.specs.Tasks.{Task, Work, make_file, make_missing_file, remove_file, make_directory, remove_directory, make_link, remove_link, task_at, want_of}
+use Rattle.host_acts.specs.Wants as wants
+use Rattle.host_acts.specs.Wants.{IsWanted}
+use Rattle.host_acts.specs.declared.cause.Cause.{Cause}
+use Rattle.host_acts.specs.declared.steps.Step.TheVariants.{Stays, Fails, Changes}
+use Rattle.host_acts.proofs.ChangeLemmas.{without_here, becomes-none, not_above, updates-at, wanted-after}
+use Rattle.host_acts.proofs.KeptLemmas.{none_true}
+use Rattle.host_acts.proofs.PrefixLemmas.{bytes_apart}
+use Rattle.host_acts.proofs.StepLemmas.{lets-directory, says-changes}
+
+-- a file or a link stands there
+IsFileOrLink : Option Entry → Type 0
+IsFileOrLink None = ⊥
+IsFileOrLink (Some (File content mode)) = Unit {0}
+IsFileOrLink (Some (Directory mode)) = ⊥
+IsFileOrLink (Some (Link to)) = Unit {0}
+
+-- what work may meet where it is to change something
+Meets : Work → Option Entry → Type 0
+Meets (make_file c m r) entry = IsNoDirectory entry
+Meets (make_missing_file c m) entry = entry ≡ None
+Meets remove_file entry = IsFileOrLink entry
+Meets (make_directory m r) entry = IsDirectoryOrNone entry
+Meets (remove_directory r) entry = IsDirectory entry
+Meets (make_link t) entry = IsLinkOrNone entry
+Meets remove_link entry = IsFileOrLink entry
+
+meets : (work : Work) (below : Bool) (entry : Option Entry) → (IsWanted (want_of work) entry → ⊥) → cause_here work below entry ≡ None → Meets work entry
+unfolding Meets IsFileOrLink
+meets (make_file c m r) below None apart is = tt
+meets (make_file c m r) below (Some (File d n)) apart is = tt
+meets (make_file c m r) below (Some (Directory n)) apart is = cc
+meets (make_file c m r) below (Some (Link t)) apart is = tt
+meets (make_missing_file c m) below None apart is = refl
+meets (make_missing_file c m) below (Some (File d n)) apart is = absurd (apart (tt, tt))
+meets (make_missing_file c m) below (Some (Directory n)) apart is = cc
+meets (make_missing_file c m) below (Some (Link t)) apart is = cc
+meets remove_file below None apart is = absurd (apart tt)
+meets remove_file below (Some (File d n)) apart is = tt
+meets remove_file below (Some (Directory n)) apart is = cc
+meets remove_file below (Some (Link t)) apart is = tt
+meets (make_directory m r) below None apart is = tt
+meets (make_directory m r) below (Some (File d n)) apart is = cc
+meets (make_directory m r) below (Some (Directory n)) apart is = tt
+meets (make_directory m r) below (Some (Link t)) apart is = cc
+meets (remove_directory r) below None apart is = absurd (apart tt)
+meets (remove_directory r) below (Some (File d n)) apart is = cc
+meets (remove_directory r) below (Some (Directory n)) apart is = tt
+meets (remove_directory r) below (Some (Link t)) apart is = cc
+meets (make_link u) below None apart is = tt
+meets (make_link u) below (Some (File d n)) apart is = cc
+meets (make_link u) below (Some (Directory n)) apart is = cc
+meets (make_link u) below (Some (Link t)) apart is = tt
+meets remove_link below None apart is = absurd (apart tt)
+meets remove_link below (Some (File d n)) apart is = cc
+meets remove_link below (Some (Directory n)) apart is = cc
+meets remove_link below (Some (Link t)) apart is = tt
+
+meets_seen : (work : Work) (seen : Seen) → step_seen work seen ≡ Changes → Meets work (entry_of seen)
+meets_seen work seen is = let both = says-changes work seen is in meets work (is_filled seen) (entry_of seen) both.0 both.1
+
+-- ---- work by kind
+
+-- ---- removals
+
+file_or_link : (entry : Option Entry) → IsFileOrLink entry → IsDirectory entry → ⊥
+unfolding IsFileOrLink
+file_or_link None is directory = is
+file_or_link (Some (File c m)) is directory = directory
+file_or_link (Some (Directory m)) is directory = is
+file_or_link (Some (Link t)) is directory = directory
+
+without_elsewhere : (path : List ℕ) (r : Bool) (host : Entries) (q : List ℕ) → q ≢ path → Elsewhere (task_at path (remove_directory r)) host (without path host) q
+without_elsewhere path r host q apart = by (is_above path q) refl
+  where
+    there : (b : Bool) → is_above path q ≡ b → at (without path host) q ≡ cond b None (at host q)
+    there b is =
+        at-without path host q ∙ ap (λ (s : Bool). cond (s || is_above path q) None (at host q)) (bytes_apart path q (λ same. apart (sym same)))
+        ∙ ap (λ (s : Bool). cond s None (at host q)) is
+
+    by : (b : Bool) → is_above path q ≡ b → Elsewhere (task_at path (remove_directory r)) host (without path host) q
+    by true is = act.gone is refl (there true is)
+    by false is = act.stays (there false is)
+
+without_above : (path : List ℕ) (host : Entries) (prefix : List ℕ) → is_above prefix path ≡ true → is_above path prefix ≡ false → at (without path host) prefix ≡ at host prefix
+without_above path host prefix above apart =
+    at-without path host prefix ∙ ap (λ (s : Bool). cond (s || is_above path prefix) None (at host prefix)) (bytes_apart path prefix (λ same. not_above prefix path above (sym same)))
+    ∙ ap (λ (s : Bool). cond s None (at host prefix)) apart
+
+not_under : (path prefix : List ℕ) → is_above prefix path ≡ true → is_above path prefix ≡ false
+not_under path prefix above = by (is_above path prefix) refl
+  where
+    by : (b : Bool) → is_above path prefix ≡ b → is_above path prefix ≡ false
+    by true is = absurd (true≢false (sym (above-trans prefix path prefix above is) ∙ above-itself prefix))
+    by false is = is
+
+update-no_directory : (path : List ℕ) (work : Work) (seen : Seen) (host : Entries) → (None ≡ entry_after work (at host path)) → (IsDirectory (at host path) → ⊥) → Stands path seen host
+    → Updates (task_at path work) host (without path host)
+update-no_directory path work seen host is lacks stands = updates-at (task_at path work) host (without path host) None stands.reached is (becomes-none path host stands.whole lacks)
+
+no_directory : (work : Work) (path : List ℕ) (seen : Seen) (host : Entries) → IsFileOrLink (entry_of seen) → Stands path seen host → IsDirectory (at host path) → ⊥
+no_directory work path seen host is stands directory = file_or_link (at host path) (subst IsFileOrLink (sym stands.here) is) directory
+
+pub update-removed : (path : List ℕ) (work : Work) (seen : Seen) (host : Entries) → is_removal work ≡ true → step_seen work seen ≡ Changes → Stands path seen host → Updates (task_at path work) host (without path host)
+unfolding Meets
+update-removed path (make_file c m r) seen host removal changes stands = none_true removal
+update-removed path (make_missing_file c m) seen host removal changes stands = none_true removal
+update-removed path remove_file seen host removal changes stands = update-no_directory path remove_file seen host refl (no_directory remove_file path seen host (meets_seen remove_file seen changes) stands) stands
+update-removed path (make_directory m r) seen host removal changes stands = none_true removal
+update-removed path (remove_directory r) seen host removal changes stands = record {
+  done = record {
+    here = subst (IsWanted wants.absent) (sym (without_here path host)) tt;
+    above = λ prefix above.
+        lets-directory wants.absent (at (without path host) prefix) (subst IsDirectory (sym (without_above path host prefix above (not_under path prefix above))) (stands.reached prefix above));
+  };
+  here = without_here path host;
+  elsewhere = λ q apart. without_elsewhere path r host q apart;
+}
+update-removed path (make_link t) seen host removal changes stands = none_true removal
+update-removed path remove_link seen host removal changes stands = update-no_directory path remove_link seen host refl (no_directory remove_link path seen host (meets_seen remove_link seen changes) stands) stands

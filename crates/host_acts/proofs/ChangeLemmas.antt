@@ -1,0 +1,176 @@
+-- What the calls of one act make of a host.
+use Rattle.std.proofs.Common.{◌≡◌, ◌≢◌, ◌⊎◌, inl, inr, ℕ, Bool, true, false, cond, ◌||◌, List, [], Option, Some, None, option_map, bytes_eq, refl, sym, ap, subst, ◌∙◌}
+use Rattle.std.proofs.lemmas.Bool.{true≢false}
+use Rattle.std.specs.Cmp.Lexicographic.{bytes_decides}
+use Rattle.host_tree.proofs.EntryLemmas.{at-with_directory, at-with_file, at-with_link, at-with_mode, at-without, same_host}
+use Rattle.host_tree.proofs.PathLemmas.{above-itself}
+use Rattle.host_tree.specs.Acts.{CanMake, CanRemove, CanSetMode, CanWrite, HasMode, IsFileOrNone, IsReached, LosesPart, StaysOrGoes, entry_of, moded, sight, with_directory, with_file, with_link, with_mode, without, written}
+use Rattle.host_tree.specs.Entries.{Entries, at, has_below, IsDirectory, IsHost}
+use Rattle.host_tree.specs.Paths.{is_above}
+use Rattle.host_tree.specs.declared.entry.Entry.{Entry}
+use Rattle.host_tree.specs.declared.entry.Entry.TheVariants.{File, Directory, Link}
+use Rattle.host_tree.specs.declared.seen.Seen.{Seen}
+use Rattle.host_tree.specs.declared.seen.Seen.TheVariants.{Absent, LinkThere}
+use Rattle.host_acts.specs.Acts as act
+use Rattle.host_acts.specs.Acts.{Elsewhere, IsDone, IsPart, Updates, entry_after, given, removes_below}
+use Rattle.host_acts.specs.Changes.{Becomes, IsDirectoryOrNone, IsLinkOrNone, IsNoDirectory, IsUnlinked, KeepsOthers, SetsDue, Stands, content_put, directory_put, directory_with, file_put, is_kept, mode_due, text_of, unlinked, with_due}
+use Rattle.host_acts.specs.Steps.{fits_mode, fits_text}
+use Rattle.host_acts.specs.Tasks.{Task, Work, make_file, make_missing_file, remove_file, make_directory, remove_directory, make_link, remove_link, want_of}
+use Rattle.host_acts.specs.Wants as wants
+use Rattle.host_acts.specs.Wants.{Fits, IsWanted, Want}
+use Rattle.host_acts.specs.declared.steps.Step.TheVariants.{Stays, Fails, Changes}
+use Rattle.host_acts.proofs.KeptLemmas.{none_true}
+use Rattle.host_acts.proofs.PrefixLemmas.{bytes_apart}
+use Rattle.host_acts.proofs.StepLemmas.{entry_of-sight, fits_mode-true, fits_text-true, lets-directory, none_some}
+
+bytes_same : (path : List ℕ) → bytes_eq path path ≡ true
+bytes_same path = (bytes_decides path path).1 refl
+
+pub not_above : (prefix path : List ℕ) → is_above prefix path ≡ true → prefix ≢ path
+not_above prefix path above same = true≢false (sym above ∙ ap (λ (p : List ℕ). is_above p path) same ∙ above-itself path)
+
+-- a path is reached still where the other paths are kept
+pub reached-kept : (path : List ℕ) (host new : Entries) → KeepsOthers path host new → IsReached host path → IsReached new path
+reached-kept path host new kept reached prefix above = subst IsDirectory (sym (kept prefix (not_above prefix path above))) (reached prefix above)
+
+-- ---- each call
+
+put_here : (path : List ℕ) (one other : Option Entry) → cond (bytes_eq path path) one other ≡ one
+put_here path one other = ap (λ (b : Bool). cond b one other) (bytes_same path)
+
+put_there : (path q : List ℕ) (one other : Option Entry) → q ≢ path → cond (bytes_eq q path) one other ≡ other
+put_there path q one other apart = ap (λ (b : Bool). cond b one other) (bytes_apart q path apart)
+
+pub becomes-file : (path content : List ℕ) (host : Entries) → Becomes path (Some (written content (at host path))) host (with_file path content host)
+becomes-file path content host = record {
+  here = at-with_file path content host path ∙ put_here path _ _;
+  others = λ other apart. at-with_file path content host other ∙ put_there path other _ _ apart;
+}
+
+pub becomes-directory : (path : List ℕ) (host : Entries) → Becomes path (Some (Directory 493)) host (with_directory path host)
+becomes-directory path host = record {
+  here = at-with_directory path host path ∙ put_here path _ _;
+  others = λ other apart. at-with_directory path host other ∙ put_there path other _ _ apart;
+}
+
+pub becomes-link : (path to : List ℕ) (host : Entries) → Becomes path (Some (Link to)) host (with_link path to host)
+becomes-link path to host = record {
+  here = at-with_link path to host path ∙ put_here path _ _;
+  others = λ other apart. at-with_link path to host other ∙ put_there path other _ _ apart;
+}
+
+pub sets-mode : (path : List ℕ) (mode : ℕ) (host : Entries) → SetsDue path (Some mode) host (with_mode path mode host)
+sets-mode path mode host = record {
+  here = at-with_mode path mode host path ∙ put_here path _ _;
+  others = λ other apart. at-with_mode path mode host other ∙ put_there path other _ _ apart;
+}
+
+-- where a host has no directory, nothing is below
+pub nothing_below : (host : Entries) (path q : List ℕ) → IsHost host → (IsDirectory (at host path) → ⊥) → is_above path q ≡ true → at host q ≡ None
+nothing_below host path q whole lacks below = by (at host q) refl
+  where
+    by : (entry : Option Entry) → at host q ≡ entry → at host q ≡ None
+    by None is = is
+    by (Some entry) is = absurd (lacks ((whole q entry is).1 path below))
+
+within_at : (path q : List ℕ) (b : Bool) (one : Option Entry) → q ≢ path → is_above path q ≡ b → cond (bytes_eq path q || is_above path q) None one ≡ cond b None one
+within_at path q b one apart is =
+    ap (λ (s : Bool). cond (s || is_above path q) None one) (bytes_apart path q (λ same. apart (sym same))) ∙ ap (λ (s : Bool). cond s None one) is
+
+pub without_here : (path : List ℕ) (host : Entries) → at (without path host) path ≡ None
+without_here path host = at-without path host path ∙ ap (λ (b : Bool). cond (b || is_above path path) None (at host path)) (bytes_same path)
+
+-- removing what is no directory changes its path alone
+pub becomes-none : (path : List ℕ) (host : Entries) → IsHost host → (IsDirectory (at host path) → ⊥) → Becomes path None host (without path host)
+becomes-none path host whole lacks = record {
+  here = without_here path host;
+  others = λ other apart. at-without path host other ∙ by other apart (is_above path other) refl;
+}
+  where
+    by : (other : List ℕ) → other ≢ path → (b : Bool) → is_above path other ≡ b → cond (bytes_eq path other || is_above path other) None (at host other) ≡ at host other
+    by other apart true is = within_at path other true (at host other) apart is ∙ sym (nothing_below host path other whole lacks is)
+    by other apart false is = within_at path other false (at host other) apart is
+
+-- ---- an act's work as a change at one path
+
+pub kept_then : (path : List ℕ) (host mid new : Entries) → KeepsOthers path host mid → KeepsOthers path mid new → KeepsOthers path host new
+kept_then path host mid new one other q apart = other q apart ∙ one q apart
+
+pub becomes_then : (path : List ℕ) (one other : Option Entry) (host mid new : Entries) → Becomes path one host mid → Becomes path other mid new → Becomes path other host new
+becomes_then path one other host mid new first second = record { here = second.here; others = kept_then path host mid new first.others second.others }
+
+given-differs : (content : Option (List ℕ)) (before : List ℕ) → fits_text content before ≡ false → given content [] ≡ given content before
+given-differs None before is = absurd (true≢false is)
+given-differs (Some text) before is = refl
+
+pub new-content : (content : Option (List ℕ)) (entry : Option Entry) → IsNoDirectory entry → is_kept content entry ≡ false → content_put content entry ≡ Some (written (text_of content) (unlinked entry))
+new-content content None lacks is = refl
+new-content content (Some (File d n)) lacks is = ap (λ (t : List ℕ). Some (File t n)) (sym (given-differs content d is))
+new-content content (Some (Directory n)) lacks is = absurd lacks
+new-content content (Some (Link t)) lacks is = refl
+
+-- ---- what the calls make is what the work makes
+
+-- ---- what the work makes is what it wants
+
+fits-given : {X : Type 0} (one : Option X) (before : X) → Fits one (given one before)
+fits-given None before = tt
+fits-given (Some x) before = refl
+
+pub wanted-after : (work : Work) (entry : Option Entry) → IsWanted (want_of work) (entry_after work entry)
+wanted-after (make_file c m r) None = (fits-given c [], fits-given m 420)
+wanted-after (make_file c m r) (Some (File d n)) = (fits-given c d, fits-given m n)
+wanted-after (make_file c m r) (Some (Directory n)) = (fits-given c [], fits-given m 420)
+wanted-after (make_file c m r) (Some (Link t)) = (fits-given c [], fits-given m 420)
+wanted-after (make_missing_file c m) None = (tt, tt)
+wanted-after (make_missing_file c m) (Some (File d n)) = (tt, tt)
+wanted-after (make_missing_file c m) (Some (Directory n)) = (tt, tt)
+wanted-after (make_missing_file c m) (Some (Link t)) = (tt, tt)
+wanted-after remove_file entry = tt
+wanted-after (make_directory m r) None = fits-given m 493
+wanted-after (make_directory m r) (Some (File d n)) = fits-given m 493
+wanted-after (make_directory m r) (Some (Directory n)) = fits-given m n
+wanted-after (make_directory m r) (Some (Link t)) = fits-given m 493
+wanted-after (remove_directory r) entry = tt
+wanted-after (make_link t) entry = refl
+wanted-after remove_link entry = tt
+
+-- a host in which the work was done at its path, and no other path changed
+pub updates-at : (task : Task) (host new : Entries) (entry : Option Entry) → IsReached host task.path → entry ≡ entry_after task.work (at host task.path) → Becomes task.path entry host new → Updates task host new
+updates-at task host new entry reached is becomes = record {
+  done = record {
+    here = subst (IsWanted (want_of task.work)) (sym (becomes.here ∙ is)) (wanted-after task.work (at host task.path));
+    above = λ prefix above. lets-directory (want_of task.work) (at new prefix) (reached-kept task.path host new becomes.others reached prefix above);
+  };
+  here = becomes.here ∙ is;
+  elsewhere = λ path apart. act.stays (becomes.others path apart);
+}
+
+-- ---- the calls of one act, by what was seen
+
+becomes-as : (path : List ℕ) (one other : Option Entry) (host new : Entries) → one ≡ other → Becomes path one host new → Becomes path other host new
+becomes-as path one other host new is becomes = subst (λ (e : Option Entry). Becomes path e host new) is becomes
+
+link_no_directory : (to : List ℕ) (entry : Option Entry) → entry ≡ Some (Link to) → IsDirectory entry → ⊥
+link_no_directory to entry is directory = subst IsDirectory is directory
+
+pub unlinks : (path to : List ℕ) (seen : Seen) (host : Entries) → seen ≡ LinkThere to → Stands path seen host → Becomes path (unlinked (entry_of seen)) host (without path host)
+unlinks path to seen host is stands =
+    becomes-as path None (unlinked (entry_of seen)) host (without path host) (sym (ap (λ (s : Seen). unlinked (entry_of s)) is))
+    (becomes-none path host stands.whole (link_no_directory to (at host path) (stands.here ∙ ap entry_of is)))
+
+pub makes_absent : (path : List ℕ) (seen : Seen) (host : Entries) → seen ≡ Absent → Becomes path (directory_put (entry_of seen)) host (with_directory path host)
+makes_absent path seen host is =
+    becomes-as path (Some (Directory 493)) (directory_put (entry_of seen)) host (with_directory path host) (sym (ap (λ (s : Seen). directory_put (entry_of s)) is)) (becomes-directory path host)
+
+pub sets_due : (path : List ℕ) (mode : ℕ) (due : Option ℕ) (host : Entries) → due ≡ Some mode → SetsDue path due host (with_mode path mode host)
+sets_due path mode due host is = subst (λ (d : Option ℕ). SetsDue path d host (with_mode path mode host)) (sym is) (sets-mode path mode host)
+
+pub puts_content : (path : List ℕ) (content : Option (List ℕ)) (entry : Option Entry) (host : Entries) → IsNoDirectory entry → is_kept content entry ≡ false → IsUnlinked path entry host
+    → Becomes path (content_put content entry) host (with_file path (text_of content) host)
+puts_content path content entry host lacks kept stands =
+    becomes-as path (Some (written (text_of content) (at host path))) (content_put content entry) host (with_file path (text_of content) host)
+    (ap (λ (e : Option Entry). Some (written (text_of content) e)) stands.here ∙ sym (new-content content entry lacks kept)) (becomes-file path (text_of content) host)
+
+pub relinks : (path to : List ℕ) (entry : Option Entry) (host mid : Entries) → Becomes path entry host mid → Becomes path (Some (Link to)) host (with_link path to mid)
+relinks path to entry host mid first = becomes_then path entry (Some (Link to)) host mid (with_link path to mid) first (becomes-link path to mid)

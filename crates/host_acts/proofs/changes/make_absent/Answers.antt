@@ -1,0 +1,12 @@
+use Rattle.std.proofs.Common.{◌≡◌, List, ℕ, Option, Some, None, option_map, refl, sym, ap, subst, ◌∙◌, rules, arith, get_or}
+use Rattle.host_tree.specs.Acts.{CanMake, CanSetMode, entry_of, with_directory, with_file, with_link, with_mode, without}
+use Rattle.host_tree.specs.declared.entry.Entry.TheVariants.{Link}
+use Rattle.host_acts.specs.Changes.{Becomes, IsUnlinked, MakesPrefix, SetsDue, Stands, content_put, directory_put, text_of, unlinked}
+use Rattle.host_acts.proofs.TellsLemmas.{on_ok_made, on_ok_then_made}
+use Rattle.host_acts.proofs.ChangeLemmas.{makes_absent}
+use Rattle.host_acts.proofs.changes.make_absent.Goals as goal
+
+pub returns-in-Absent-clause-ok : goal.returns-in-Absent-clause-ok
+returns-in-Absent-clause-ok g c =
+    on_ok_made (Stands c.args.path.now c.args.seen.now) (Becomes c.args.path.now (directory_put (entry_of c.args.seen.now))) (with_directory c.args.path.now)
+    (λ h _. makes_absent c.args.path.now c.args.seen.now h c.in-Absent.is) _ _ c.make_dir.result c.requires c.make_dir.ensures.ok

@@ -1,0 +1,12 @@
+use Rattle.std.proofs.Common.{◌≡◌, List, ℕ, Option, Some, None, option_map, refl, sym, ap, subst, ◌∙◌, rules, arith, get_or}
+use Rattle.host_tree.specs.Acts.{CanMake, CanSetMode, entry_of, with_directory, with_file, with_link, with_mode, without}
+use Rattle.host_tree.specs.declared.entry.Entry.TheVariants.{Link}
+use Rattle.host_acts.specs.Changes.{Becomes, IsUnlinked, MakesPrefix, SetsDue, Stands, content_put, directory_put, text_of, unlinked}
+use Rattle.host_acts.proofs.TellsLemmas.{on_ok_made, on_ok_then_made}
+use Rattle.host_acts.proofs.ChangeLemmas.{unlinks}
+use Rattle.host_acts.proofs.changes.unlink.Goals as goal
+
+pub returns-in-LinkThere-clause-ok : goal.returns-in-LinkThere-clause-ok
+returns-in-LinkThere-clause-ok g c =
+    on_ok_made (Stands c.args.path.now c.args.seen.now) (Becomes c.args.path.now (unlinked (entry_of c.args.seen.now))) (without c.args.path.now)
+    (λ h stands. unlinks c.args.path.now c.in-LinkThere.to c.args.seen.now h c.in-LinkThere.is stands) _ _ c.remove.result c.requires c.remove.ensures.ok
