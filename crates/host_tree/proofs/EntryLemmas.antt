@@ -1,12 +1,13 @@
 -- What stands at each path after a change, and that a host stays one.
-use Rattle.std.proofs.Common.{◌≡◌, ◌⊎◌, inl, inr, ℕ, Bool, true, false, cond, not, ◌||◌, IsTrue, List, Option, Some, None, bytes_eq, option_map, refl, sym, ap, subst, ◌∙◌}
+use Rattle.std.proofs.Common.{◌≡◌, Bor, ◌⊎◌, inl, inr, ℕ, Bool, true, false, cond, not, ◌||◌, IsTrue, List, Option, Some, None, bytes_eq, option_map, refl, sym, ap, subst, ◌∙◌}
+use Rattle.std.specs.Option.{option_copied}
 use Rattle.std.proofs.lemmas.Bool.{or_cases, or_right, true≢false}
 use Rattle.std.proofs.lemmas.Cmp.{nat_list_cmp_total}
 use Rattle.std.specs.Cmp.Lexicographic.{bytes_decides}
 use Rattle.std.specs.FinMap as finite
 use Rattle.std.specs.FinMap.{get-insert, get-remove, get-retain_keys, same_map, slice_cmp-IsAntisymmetric, nat_cmp-IsAntisymmetric}
 use Rattle.doc_tree.proofs.Maps.{eq_by_cmp-text}
-use Rattle.host_tree.specs.Acts.{written, moded, with_file, with_directory, with_link, with_mode, with_mode_at, without, IsReached, IsFileOrNone, CanWrite, CanMake}
+use Rattle.host_tree.specs.Acts.{CanRemove, written, moded, with_file, with_directory, with_link, with_mode, with_mode_at, without, IsReached, IsFileOrNone, CanWrite, CanMake}
 use Rattle.host_tree.specs.Entries.{Entries, at, IsDirectory, IsHost}
 use Rattle.host_tree.specs.Image.{CanPut}
 use Rattle.host_tree.specs.Paths.{is_normal, is_above}
@@ -146,3 +147,7 @@ host-without path host whole q found has =
     let kept = kept_apart (is_within path q) (at host q) found (sym (at-without path host q) ∙ has) in
     let parts = whole q found kept.1 in
     (parts.0, λ above is. subst IsDirectory (sym (at-without path host above)) (host-without_at (is_within path above) path above q host refl is kept.0 (parts.1 above is)))
+
+-- what a look at a map lends stands there, so it can be removed
+pub removable : {lent : Bor Entry} (path : List ℕ) (host : Entries) (result : Option (Bor Entry)) → result ≡ Some lent → option_copied result ≡ at host path → IsReached host path → CanRemove host path
+removable {lent = lent} path host result is value reached = (reached, (lent.now, sym value ∙ ap option_copied is))

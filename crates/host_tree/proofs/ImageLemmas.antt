@@ -1,6 +1,6 @@
 -- An image is read pair by pair, in the order of its paths.
 use Rattle.std.proofs.Common.{◌≡◌, ◌⊎◌, inl, inr, ℕ, zero, suc, ◌+◌, ◌<◌, Bool, true, false, cond, ◌&&◌, ◌||◌, ◌==◌, IsTrue, List, [], ◌∷◌, ◌++◌, length, map, take, drop, slice_get, get_or, IfOk, Option, Some, None, is_some, Result, Ok, Err, Less, nat_cmp, bytes_eq, refl, sym, ap, subst, ◌∙◌, arith}
-use Rattle.std.proofs.lemmas.Bool.{and_parts, and_from, or_cases, or_left, or_right, eqb-true, eq-eqb, true≢false}
+use Rattle.std.proofs.lemmas.Bool.{and_parts, and_from, cases_Bool, or_cases, or_left, or_right, eqb-true, eq-eqb, true≢false}
 use Rattle.std.proofs.lemmas.Cmp.{nat_list_cmp_total}
 use Rattle.std.proofs.lemmas.List.{take-append-drop}
 use Rattle.std.proofs.lemmas.List.Folds.{list_any-append}
@@ -16,6 +16,7 @@ use Rattle.doc_tree.specs.Doc.{Doc, dict, pairs_of}
 use Rattle.doc_tree.specs.Tree.{pair_of}
 use Rattle.doc_tree.specs.Valid.{InOrder}
 use Rattle.doc_tree.specs.declared.tree.Field.{Field}
+use Rattle.host_tree.specs.Acts.{IsReached}
 use Rattle.host_tree.specs.Documents.{doc_pair, image_of, entry_in, is_slash, parent_of, is_directory, has_parent, kept_entry, entries_in, host_of, form_in, first_bad, host_or, pairs_host}
 use Rattle.host_tree.specs.Entries.{Entries, at, IsDirectory, IsHost}
 use Rattle.host_tree.specs.Image.{CanPut}
@@ -249,6 +250,31 @@ reached_from above path host whole over (inl same) (inr there) = subst (λ (p : 
 reached_from above path host whole over (inr on) (inr there) =
     let found = some_there (at host (parent_of path)) (directory_there (at host (parent_of path)) there) in
     (whole (parent_of path) found.0 found.1).1 above (above-goes_on above (parent_of path) (above-some above path over) ∙ on)
+
+-- a normal path is reached exactly where its parent is the root or a directory
+there_directory : (found : Option Entry) → IsDirectory found → is_directory found ≡ true
+there_directory None is = absurd is
+there_directory (Some (File content mode)) is = absurd is
+there_directory (Some (Directory mode)) is = refl
+there_directory (Some (Link to)) is = absurd is
+
+some_parent : (parent path : List ℕ) → bytes_eq parent [] ≡ false → goes_on parent path ≡ true → is_above parent path ≡ true
+some_parent [] path apart on = absurd (true≢false (sym ((bytes_decides [] []).1 refl) ∙ apart))
+some_parent (b ∷ bs) path apart on = on
+
+pub parent-reached : (path : List ℕ) (host : Entries) → IsHost host → IsTrue (is_normal path) → (has_parent host path ≡ true → IsReached host path) × (IsReached host path → has_parent host path ≡ true)
+parent-reached path host whole normal = (
+  (λ there above over.
+      reached_from above path host whole over (goes_on-parent above path (sym (above-goes_on above path (above-some above path over)) ∙ over))
+      (or_cases (bytes_eq (parent_of path) []) (is_directory (at host (parent_of path))) there)),
+  (λ reached. parent (cases_Bool (bytes_eq (parent_of path) [])) reached),
+)
+  where
+    parent : (bytes_eq (parent_of path) [] ≡ true) ⊎ (bytes_eq (parent_of path) [] ≡ false) → IsReached host path → has_parent host path ≡ true
+    parent (inl root) reached = or_left (bytes_eq (parent_of path) []) (is_directory (at host (parent_of path))) root
+    parent (inr apart) reached =
+        or_right (bytes_eq (parent_of path) []) (is_directory (at host (parent_of path)))
+        (there_directory (at host (parent_of path)) (reached (parent_of path) (some_parent (parent_of path) path apart (parent-goes_on path (normal-slash path normal)))))
 
 -- a pair that has its form can be put
 pub form-fits : (all : List (List ℕ × Doc)) (i : ℕ) (p : List ℕ × Doc) (e : Entry) → InOrder (keys_of all) → slice_get all i ≡ Some p → IsHost (host_of (take i all)) → form_in (host_of (take i all)) p ≡ Some e

@@ -50,8 +50,15 @@ impl FaultyHost {
         }
     }
 
+    /// What it holds.
+    pub fn image_host(&self) -> &ImageHost
+        ensures { result.now ≡ self.now.host }
+    {
+        &self.host
+    }
+
     /// What it holds, which is moved out.
-    pub fn into_image(self) -> ImageHost
+    pub fn into_image_host(self) -> ImageHost
         ensures { result ≡ self.host }
     {
         let FaultyHost {
@@ -145,6 +152,7 @@ impl Host for FaultyHost {
         requires { CanRemove self.old.host path.now }
         ensures ok { OnOk result (Some self.new.host ≡ Some (without path.now self.old.host)) }
         ensures err { OnErr result (LosesPart path.now self.old.host self.new.host) }
+        ensures untouched { result ≡ Err fault.Failed → self.new.host ≡ self.old.host }
         ensures offers { self.new.offers ≡ self.old.offers }
         ensures cause { HasHostCause self.old.failures.faults self.new.failures.faults result }
         ensures due { (result ≡ Err fault.Failed) ↔ IsTrue (is_due self.old.failures) }

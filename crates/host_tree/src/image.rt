@@ -54,8 +54,8 @@ impl ImageHost {
         }
     }
 
-    /// What stands at a path.
-    pub(crate) fn held(&self, path: &Text) -> Option<&Entry>
+    /// What stands at a path, where something does. It takes no memory.
+    pub fn held(&self, path: &Text) -> Option<&Entry>
         ensures value { option_copied result ≡ at self.now path.now }
         ensures host { IsHost self.now }
     {

@@ -1,9 +1,10 @@
 //! An image is read.
-ghost use Rattle.std.specs.Prelude.{◌≡◌, ◌⊎◌, ℕ, Bool, IfOk, OnOk, OnErr, IsTrue, None, cond, take, [], option_copied, bytes_eq};
+ghost use Rattle.std.specs.Prelude.{◌≡◌, ◌↔◌, ◌⊎◌, ℕ, Bool, IfOk, OnOk, OnErr, IsTrue, None, cond, take, [], option_copied, bytes_eq};
 ghost use Rattle.doc_tree.specs.Tree.{doc_of, pair_of};
 ghost use Rattle.doc_tree.specs.Valid.{InOrder};
 ghost use Rattle.std.specs.FinMap as finite;
 ghost use Rattle.std.specs.Map.{keys_of};
+ghost use Rattle.host_tree.specs.Acts.{IsReached};
 ghost use Rattle.host_tree.specs.Documents.{image_of, host_in, pairs_host, form_in, parent_of, is_slash, is_directory, has_parent};
 ghost use Rattle.host_tree.specs.Entries.{IsHost};
 ghost use Rattle.host_tree.specs.Outcomes.{Reads};
@@ -12,7 +13,7 @@ ghost use Rattle.host_tree.specs.Paths.{EndsPrefix};
 use crate::entry::Entry;
 use crate::image::ImageHost;
 use crate::image_fault::ImageFault;
-use crate::paths::is_normal;
+use crate::paths::{Path, is_normal};
 use crate::spelling::entry_in;
 use doc_tree::{Field, Fields, NoMemory, Text, Tree};
 use std::alloc::Global;
@@ -32,6 +33,15 @@ impl ImageHost {
             Tree::Dict(fields) => read_fields(alloc, fields),
             _ => Err(ImageFault::BadImage(Text::from_str(alloc, "")?)),
         }
+    }
+
+    /// Whether each proper prefix of a path is a directory, as each change of the path asks.
+    pub fn reaches(&self, alloc: Global, path: &Path) -> Result<bool, NoMemory>
+        ensures { IfOk result (λ answer. IsTrue answer ↔ IsReached self.now path.now) }
+    {
+        let _entries = &self.entries;
+        let answer = self.has_parent(alloc, path.as_str())?;
+        Ok(answer)
     }
 
     /// The entry that a field of an image spells, or `None` where it hasn't its form.
