@@ -1,0 +1,9 @@
+pub mod Pairs
+pub mod Runs
+pub mod Settled
+pub mod Needs
+pub mod Reports
+pub mod Outcomes
+pub mod Ending
+pub mod Going
+pub mod Counting

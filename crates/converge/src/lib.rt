@@ -1,0 +1,20 @@
+//! Runs of a plan on a host: each act in order, with what it notifies, and what a run comes to.
+#![tactic(auto)]
+
+mod chains;
+mod converging;
+mod deeds;
+mod firing;
+mod laws;
+mod lines;
+mod needs;
+mod outcome;
+mod report;
+mod runs;
+#[cfg(test)]
+mod tests;
+
+pub use converging::converge;
+pub use laws::{settled_hosts_stay, well_runs_settle};
+pub use outcome::{Cap, Outcome};
+pub use report::Report;

@@ -1,0 +1,4 @@
+pub mod FirstsLemmas
+pub mod LinkLemmas
+pub mod PairLemmas
+pub mod KeptLemmas
