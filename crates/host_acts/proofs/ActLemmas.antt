@@ -1,25 +1,23 @@
 -- What each kind of work meets where it is to change something, and what it makes.
-use Rattle.std.proofs.Common.{◌≡◌, ◌≢◌, ◌⊎◌, inl, inr, ℕ, Bool, true, false, cond, not, ◌&&◌, ◌||◌, IsTrue, is_some, List, [], Option, Some, None, bytes_eq, refl, sym, ap, subst, ◌∙◌}
+use Rattle.std.proofs.Common.{◌≡◌, ◌≢◌, ℕ, Bool, true, false, cond, ◌||◌, List, Option, Some, None, refl, sym, ap, subst, ◌∙◌}
 use Rattle.std.proofs.lemmas.Bool.{true≢false}
 use Rattle.host_tree.proofs.EntryLemmas.{at-without}
 use Rattle.host_tree.proofs.PathLemmas.{above-trans, above-itself}
-use Rattle.host_tree.specs.Acts.{CanRemove, IsReached, LosesPart, StaysOrGoes, entry_of, sight, without}
-use Rattle.host_tree.specs.Entries.{Entries, at, has_below, IsDirectory, IsHost}
+use Rattle.host_tree.specs.Acts.{entry_of, without}
+use Rattle.host_tree.specs.Entries.{Entries, at, IsDirectory}
 use Rattle.host_tree.specs.Paths.{is_above}
-use Rattle.host_tree.specs.declared.caps.Caps.{Caps}
 use Rattle.host_tree.specs.declared.entry.Entry.{Entry}
 use Rattle.host_tree.specs.declared.entry.Entry.TheVariants.{File, Directory, Link}
 use Rattle.host_tree.specs.declared.seen.Seen.{Seen}
 use Rattle.host_acts.specs.Acts as act
-use Rattle.host_acts.specs.Acts.{Elsewhere, IsDone, IsPart, Updates, cause_here, entry_after, is_removal}
-use Rattle.host_acts.specs.Changes.{Becomes, IsDirectoryOrNone, IsLinkOrNone, IsNoDirectory, KeepsOthers, Stands, directory_with, file_put}
-use Rattle.host_acts.specs.Steps.{is_filled, step_here, step_seen}
-use Rattle.host_acts.specs.Tasks.{Task, Work, make_file, make_missing_file, remove_file, make_directory, remove_directory, make_link, remove_link, task_at, want_of}
+use Rattle.host_acts.specs.Acts.{Elsewhere, Updates, cause_here, entry_after, is_removal}
+use Rattle.host_acts.specs.Changes.{IsDirectoryOrNone, IsLinkOrNone, IsNoDirectory, Stands}
+use Rattle.host_acts.specs.Steps.{is_filled, step_seen}
+use Rattle.host_acts.specs.Tasks.{Work, make_file, make_missing_file, remove_file, make_directory, remove_directory, make_link, remove_link, task_at, want_of}
 use Rattle.host_acts.specs.Wants as wants
 use Rattle.host_acts.specs.Wants.{IsWanted}
-use Rattle.host_acts.specs.declared.cause.Cause.{Cause}
-use Rattle.host_acts.specs.declared.steps.Step.TheVariants.{Stays, Fails, Changes}
-use Rattle.host_acts.proofs.ChangeLemmas.{without_here, becomes-none, not_above, updates-at, wanted-after}
+use Rattle.host_acts.specs.declared.steps.Step.TheVariants.{Changes}
+use Rattle.host_acts.proofs.ChangeLemmas.{without_here, becomes-none, not_above, updates-at}
 use Rattle.host_acts.proofs.KeptLemmas.{none_true}
 use Rattle.host_acts.proofs.PrefixLemmas.{bytes_apart}
 use Rattle.host_acts.proofs.StepLemmas.{lets-directory, says-changes}

@@ -6,17 +6,17 @@ use Rattle.std.specs.Cmp.Lexicographic.{bytes_decides}
 use Rattle.host_tree.proofs.EntryLemmas.{at-with_directory}
 use Rattle.host_tree.proofs.PathLemmas.{above-trans, above-itself}
 use Rattle.host_tree.specs.Acts.{CanMake, IsReached, with_directory}
-use Rattle.host_tree.specs.Entries.{Entries, at, has_below, IsDirectory, IsHost}
+use Rattle.host_tree.specs.Entries.{Entries, at, has_below, IsDirectory}
 use Rattle.host_tree.specs.Paths.{is_above}
 use Rattle.host_tree.specs.declared.entry.Entry.{Entry}
 use Rattle.host_tree.specs.declared.entry.Entry.TheVariants.{File, Directory, Link}
 use Rattle.host_acts.specs.Acts as act
-use Rattle.host_acts.specs.Acts.{Act, ActsTo, Elsewhere, HasCause, IsDone, IsPart, Updates, cause_above, cause_here, entry_after, is_removal, makes_prefixes, removes_below}
-use Rattle.host_acts.specs.Changes.{BuiltPart, BuiltUpTo, MakesPrefix, StaysOrIsMade}
+use Rattle.host_acts.specs.Acts.{ActsTo, Elsewhere, HasCause, IsDone, IsPart, cause_above, cause_here, entry_after, is_removal, makes_prefixes, removes_below}
+use Rattle.host_acts.specs.Changes.{BuiltUpTo, MakesPrefix, StaysOrIsMade}
 use Rattle.host_acts.specs.Scanning.{BreaksAt, obstacle_in}
 use Rattle.host_acts.specs.Steps.{cause_over}
 use Rattle.host_acts.specs.Tasks.{Task, Work, make_file, make_missing_file, remove_file, make_directory, remove_directory, make_link, remove_link, want_of}
-use Rattle.host_acts.specs.Wants.{IsWanted, LetsBe}
+use Rattle.host_acts.specs.Wants.{IsWanted}
 use Rattle.host_acts.specs.declared.cause.Cause.{Cause}
 use Rattle.host_acts.specs.declared.cause.Cause.TheVariants.{ParentMissing, NotADirectory, LinkInPath}
 use Rattle.host_acts.specs.declared.scanning.Break.{Break}

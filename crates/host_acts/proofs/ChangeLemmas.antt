@@ -1,27 +1,24 @@
 -- What the calls of one act make of a host.
-use Rattle.std.proofs.Common.{◌≡◌, ◌≢◌, ◌⊎◌, inl, inr, ℕ, Bool, true, false, cond, ◌||◌, List, [], Option, Some, None, option_map, bytes_eq, refl, sym, ap, subst, ◌∙◌}
+use Rattle.std.proofs.Common.{◌≡◌, ◌≢◌, ℕ, Bool, true, false, cond, ◌||◌, List, [], Option, Some, None, bytes_eq, refl, sym, ap, subst, ◌∙◌}
 use Rattle.std.proofs.lemmas.Bool.{true≢false}
 use Rattle.std.specs.Cmp.Lexicographic.{bytes_decides}
-use Rattle.host_tree.proofs.EntryLemmas.{at-with_directory, at-with_file, at-with_link, at-with_mode, at-without, same_host}
+use Rattle.host_tree.proofs.EntryLemmas.{at-with_directory, at-with_file, at-with_link, at-with_mode, at-without}
 use Rattle.host_tree.proofs.PathLemmas.{above-itself}
-use Rattle.host_tree.specs.Acts.{CanMake, CanRemove, CanSetMode, CanWrite, HasMode, IsFileOrNone, IsReached, LosesPart, StaysOrGoes, entry_of, moded, sight, with_directory, with_file, with_link, with_mode, without, written}
-use Rattle.host_tree.specs.Entries.{Entries, at, has_below, IsDirectory, IsHost}
+use Rattle.host_tree.specs.Acts.{IsReached, entry_of, with_directory, with_file, with_link, with_mode, without, written}
+use Rattle.host_tree.specs.Entries.{Entries, at, IsDirectory, IsHost}
 use Rattle.host_tree.specs.Paths.{is_above}
 use Rattle.host_tree.specs.declared.entry.Entry.{Entry}
 use Rattle.host_tree.specs.declared.entry.Entry.TheVariants.{File, Directory, Link}
 use Rattle.host_tree.specs.declared.seen.Seen.{Seen}
 use Rattle.host_tree.specs.declared.seen.Seen.TheVariants.{Absent, LinkThere}
 use Rattle.host_acts.specs.Acts as act
-use Rattle.host_acts.specs.Acts.{Elsewhere, IsDone, IsPart, Updates, entry_after, given, removes_below}
-use Rattle.host_acts.specs.Changes.{Becomes, IsDirectoryOrNone, IsLinkOrNone, IsNoDirectory, IsUnlinked, KeepsOthers, SetsDue, Stands, content_put, directory_put, directory_with, file_put, is_kept, mode_due, text_of, unlinked, with_due}
-use Rattle.host_acts.specs.Steps.{fits_mode, fits_text}
+use Rattle.host_acts.specs.Acts.{Updates, entry_after, given}
+use Rattle.host_acts.specs.Changes.{Becomes, IsNoDirectory, IsUnlinked, KeepsOthers, SetsDue, Stands, content_put, directory_put, is_kept, text_of, unlinked}
+use Rattle.host_acts.specs.Steps.{fits_text}
 use Rattle.host_acts.specs.Tasks.{Task, Work, make_file, make_missing_file, remove_file, make_directory, remove_directory, make_link, remove_link, want_of}
-use Rattle.host_acts.specs.Wants as wants
-use Rattle.host_acts.specs.Wants.{Fits, IsWanted, Want}
-use Rattle.host_acts.specs.declared.steps.Step.TheVariants.{Stays, Fails, Changes}
-use Rattle.host_acts.proofs.KeptLemmas.{none_true}
+use Rattle.host_acts.specs.Wants.{Fits, IsWanted}
 use Rattle.host_acts.proofs.PrefixLemmas.{bytes_apart}
-use Rattle.host_acts.proofs.StepLemmas.{entry_of-sight, fits_mode-true, fits_text-true, lets-directory, none_some}
+use Rattle.host_acts.proofs.StepLemmas.{lets-directory}
 
 bytes_same : (path : List ℕ) → bytes_eq path path ≡ true
 bytes_same path = (bytes_decides path path).1 refl

@@ -1,18 +1,18 @@
 -- An act that updates keeps each want that suits its own; and wants that agree suit each other.
-use Rattle.std.proofs.Common.{◌≡◌, ◌≢◌, ◌⊎◌, inl, inr, ℕ, Bool, true, false, List, Option, Some, None, bytes_eq, refl, sym, ap, subst, ◌∙◌}
+use Rattle.std.proofs.Common.{◌≡◌, ◌≢◌, inl, inr, ℕ, Bool, true, false, List, Option, Some, None, bytes_eq, refl, sym, ap, subst, ◌∙◌}
 use Rattle.std.proofs.lemmas.Bool.{true≢false}
 use Rattle.std.specs.Cmp.Lexicographic.{bytes_decides}
 use Rattle.host_tree.proofs.PathLemmas.{above-trans}
-use Rattle.host_tree.specs.Entries.{Entries, at, IsDirectory}
+use Rattle.host_tree.specs.Entries.{Entries, at}
 use Rattle.host_tree.specs.Paths.{is_above}
 use Rattle.host_tree.specs.declared.entry.Entry.{Entry}
 use Rattle.host_tree.specs.declared.entry.Entry.TheVariants.{File, Directory, Link}
 use Rattle.host_acts.specs.Acts as act
 use Rattle.host_acts.specs.Acts.{Elsewhere, Updates, entry_after, given, makes_prefixes, removes_below}
-use Rattle.host_acts.specs.Agreeing.{Agrees, AgreesByPath, AgreeingByPathSuit, AgreeingSuit, FitAbove, HoldsIn, IsDirectoryWant, Suits, UpdatesKeep}
+use Rattle.host_acts.specs.Agreeing.{AgreeingByPathSuit, AgreeingSuit, FitAbove, HoldsIn, IsDirectoryWant, Suits, UpdatesKeep}
 use Rattle.host_acts.specs.Tasks.{Task, Work, make_file, make_missing_file, remove_file, make_directory, remove_directory, make_link, remove_link, want_of, wanted_by}
 use Rattle.host_acts.specs.Wants as wants
-use Rattle.host_acts.specs.Wants.{Fits, Holds, IsNoLink, IsWanted, LetsBe, Want, Wanted}
+use Rattle.host_acts.specs.Wants.{Fits, IsNoLink, IsWanted, LetsBe, Want, Wanted}
 
 pub none_true : {P : Type 0} → false ≡ true → P
 none_true h = absurd (true≢false (sym h))

@@ -1,5 +1,5 @@
 -- What a scan of the proper prefixes has found.
-use Rattle.std.proofs.Common.{◌≡◌, ◌⊎◌, inl, inr, ℕ, ◌+◌, ◌<◌, ◌≤◌, Bool, true, false, cond, ◌==◌, List, Option, Some, None, length, take, get_or, refl, sym, ap, subst, ◌∙◌, arith}
+use Rattle.std.proofs.Common.{◌≡◌, ◌⊎◌, inl, inr, ℕ, ◌+◌, ◌<◌, ◌≤◌, Bool, true, false, cond, ◌==◌, List, Option, Some, None, length, take, get_or, refl, sym, ap, ◌∙◌, arith}
 use Rattle.std.proofs.lemmas.Bool.{cases_lt, eqb-true, eq-eqb}
 use Rattle.std.proofs.lemmas.List.{length-take-le}
 use Rattle.host_tree.proofs.PathLemmas.{above-trans}
@@ -10,7 +10,6 @@ use Rattle.host_tree.specs.declared.entry.Entry.{Entry}
 use Rattle.host_tree.specs.declared.entry.Entry.TheVariants.{File, Directory, Link}
 use Rattle.host_tree.specs.declared.seen.Seen.{Seen}
 use Rattle.host_acts.specs.Scanning.{BreaksAt, obstacle_ending, obstacle_in}
-use Rattle.host_acts.specs.declared.scanning.Break.{Break}
 use Rattle.host_acts.specs.declared.scanning.Obstacle.{Obstacle}
 use Rattle.host_acts.proofs.StepLemmas.{entry_of-sight}
 use Rattle.host_acts.proofs.PrefixLemmas.{above-shorter, above-slash, above-take, take-above}

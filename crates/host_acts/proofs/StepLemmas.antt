@@ -1,21 +1,20 @@
 -- What a step says of a host.
-use Rattle.std.proofs.Common.{◌≡◌, ◌≢◌, ◌⊎◌, inl, inr, ℕ, ◌+◌, ◌<◌, ◌≤◌, Bool, true, false, cond, not, ◌&&◌, ◌||◌, ◌==◌, List, Option, Some, None, bytes_eq, length, take, refl, sym, ap, subst, ◌∙◌, arith}
+use Rattle.std.proofs.Common.{◌≡◌, ◌≢◌, ◌⊎◌, inl, inr, ℕ, ◌<◌, ◌≤◌, Bool, true, false, cond, not, ◌&&◌, ◌||◌, List, Option, Some, None, length, take, refl, sym, ap, subst, ◌∙◌, arith}
 use Rattle.std.proofs.lemmas.Bool.{and_parts, eqb-true, eq-eqb, true≢false, cases_lt}
 use Rattle.std.specs.Cmp.Lexicographic.{bytes_decides}
-use Rattle.host_tree.proofs.PathLemmas.{above-trans}
 use Rattle.host_tree.specs.Acts.{IsReached, entry_of, sight}
-use Rattle.host_tree.specs.Entries.{Entries, at, has_below, IsDirectory, IsHost}
+use Rattle.host_tree.specs.Entries.{Entries, at, has_below, IsDirectory}
 use Rattle.host_tree.specs.Paths.{is_above}
 use Rattle.host_tree.specs.declared.entry.Entry.{Entry}
 use Rattle.host_tree.specs.declared.entry.Entry.TheVariants.{File, Directory, Link}
 use Rattle.host_tree.specs.declared.seen.Seen.{Seen}
 use Rattle.host_acts.specs.Acts as act
-use Rattle.host_acts.specs.Acts.{Act, ActsTo, HasCause, IsDone, cause_above, cause_here, is_removal, makes_prefixes}
+use Rattle.host_acts.specs.Acts.{ActsTo, HasCause, IsDone, cause_above, cause_here, is_removal, makes_prefixes}
 use Rattle.host_acts.specs.Scanning.{BreaksAt, obstacle_in}
 use Rattle.host_acts.specs.Steps.{cause_over, fails_or_changes, fails_or_goes, fits_mode, fits_text, is_filled, is_wanted, step_here, step_over, step_seen}
 use Rattle.host_acts.specs.Tasks.{Task, Work, make_file, make_missing_file, remove_file, make_directory, remove_directory, make_link, remove_link, want_of}
 use Rattle.host_acts.specs.Wants as wants
-use Rattle.host_acts.specs.Wants.{Fits, Holds, IsNoLink, IsWanted, LetsBe, Want}
+use Rattle.host_acts.specs.Wants.{Fits, IsNoLink, IsWanted, LetsBe, Want}
 use Rattle.host_acts.specs.declared.cause.Cause.{Cause}
 use Rattle.host_acts.specs.declared.cause.Cause.TheVariants.{ParentMissing, NotADirectory, LinkInPath}
 use Rattle.host_acts.specs.declared.scanning.Break.{Break}
@@ -23,9 +22,9 @@ use Rattle.host_acts.specs.declared.scanning.Obstacle.{Obstacle}
 use Rattle.host_acts.specs.declared.scanning.Obstacle.TheVariants as over
 use Rattle.host_acts.specs.declared.steps.Step.{Step}
 use Rattle.host_acts.specs.declared.steps.Step.TheVariants.{Stays, Fails, Changes}
-use Rattle.host_acts.specs.declared.verdict.Verdict.TheVariants.{UpToDate, Updated, Failed}
+use Rattle.host_acts.specs.declared.verdict.Verdict.TheVariants.{UpToDate, Failed}
 use Rattle.host_acts.proofs.KeptLemmas.{none_true, lets_directory}
-use Rattle.host_acts.proofs.PrefixLemmas.{above-compared, above-same, above-shorter}
+use Rattle.host_acts.proofs.PrefixLemmas.{above-compared, above-same}
 
 -- ---- what is wanted, by a test
 

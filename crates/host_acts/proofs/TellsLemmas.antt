@@ -1,5 +1,5 @@
 -- What is said of a host that may tell, from call to call.
-use Rattle.std.proofs.Common.{◌≡◌, ◌⊎◌, inl, inr, ℕ, ◌+◌, ◌<◌, ◌≤◌, List, Option, Some, None, option_map, Result, Ok, Err, IfOk, OnOk, OnErr, refl, sym, ap, subst, ◌∙◌, arith}
+use Rattle.std.proofs.Common.{◌≡◌, Option, Some, None, option_map, Result, Ok, Err, IfOk, OnOk, sym, subst}
 use Rattle.host_tree.specs.Entries.{Entries}
 use Rattle.host_tree.specs.Told.{Told, Tells}
 

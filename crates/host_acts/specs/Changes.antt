@@ -1,5 +1,5 @@
 -- What the calls of one act make of a host, for the private clauses.
-use Rattle.std.specs.Prelude.{◌≡◌, ◌≢◌, ◌⊎◌, ℕ, ◌<◌, Bool, true, false, not, ◌==◌, List, [], length, take, slice_index, Option, Some, None, option_map, bytes_eq, if◌then◌else◌, IsTrue, ⊤}
+use Rattle.std.specs.Prelude.{◌≡◌, ◌≢◌, ◌⊎◌, ℕ, ◌<◌, Bool, true, false, List, [], length, take, slice_index, Option, Some, None, option_map, if◌then◌else◌, ⊤}
 use Rattle.host_tree.specs.Acts.{IsReached, entry_of, moded}
 use Rattle.host_tree.specs.Entries.{Entries, at, IsDirectory, IsHost}
 use Rattle.host_tree.specs.Paths.{is_above}

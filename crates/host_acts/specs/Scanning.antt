@@ -1,5 +1,5 @@
 -- The first proper prefix of a path at which no directory stands, for the private clauses.
-use Rattle.std.specs.Prelude.{◌≡◌, ℕ, ◌<◌, Bool, true, List, length, take, Option, Some, None, slice_index, ◌==◌, if◌then◌else◌}
+use Rattle.std.specs.Prelude.{◌≡◌, ℕ, ◌<◌, true, List, length, take, Option, Some, None, slice_index, ◌==◌, if◌then◌else◌}
 use Rattle.host_tree.specs.Acts.{IsReached}
 use Rattle.host_tree.specs.Entries.{Entries, at, IsHost}
 use Rattle.host_tree.specs.Paths.{is_above}

@@ -1,5 +1,5 @@
 -- What an act wants of a host.
-use Rattle.std.specs.Prelude.{◌≡◌, ℕ, Bool, true, List, Option, Some, None, ⊤}
+use Rattle.std.specs.Prelude.{◌≡◌, ℕ, true, List, Option, Some, None, ⊤}
 use Rattle.host_tree.specs.Entries.{Entries, at, IsDirectory}
 use Rattle.host_tree.specs.Paths.{is_above}
 use Rattle.host_tree.specs.declared.entry.Entry.{Entry}

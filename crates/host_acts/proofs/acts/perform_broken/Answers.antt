@@ -1,4 +1,4 @@
-use Rattle.std.proofs.Common.{◌≡◌, length, refl, sym, ap, subst, ◌∙◌, rules, arith}
+use Rattle.std.proofs.Common.{length, refl, sym}
 use Rattle.host_tree.specs.Acts.{IsReached}
 use Rattle.host_tree.specs.Told.{Tells}
 use Rattle.host_acts.specs.Acts.{ActsTo}

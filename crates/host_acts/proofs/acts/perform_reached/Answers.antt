@@ -1,4 +1,4 @@
-use Rattle.std.proofs.Common.{◌≡◌, Option, refl, sym, ap, subst, ◌∙◌, rules, arith}
+use Rattle.std.proofs.Common.{◌≡◌, Option, sym, ap, subst, ◌∙◌}
 use Rattle.host_tree.specs.Acts.{IsReached, sight}
 use Rattle.host_tree.specs.Entries.{Entries, at, has_below}
 use Rattle.host_tree.specs.Told.{Tells}

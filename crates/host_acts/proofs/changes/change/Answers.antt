@@ -1,4 +1,4 @@
-use Rattle.std.proofs.Common.{◌≡◌, ◌⊎◌, inl, inr, Bool, true, refl, sym, ap, subst, ◌∙◌}
+use Rattle.std.proofs.Common.{◌≡◌, ◌⊎◌, inl, inr, Bool, true, ap}
 use Rattle.host_tree.specs.Acts.{without}
 use Rattle.host_acts.specs.Acts.{Updates, is_removal}
 use Rattle.host_acts.specs.Changes.{Stands}

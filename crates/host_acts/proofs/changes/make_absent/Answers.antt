@@ -1,8 +1,6 @@
-use Rattle.std.proofs.Common.{◌≡◌, List, ℕ, Option, Some, None, option_map, refl, sym, ap, subst, ◌∙◌, rules, arith, get_or}
-use Rattle.host_tree.specs.Acts.{CanMake, CanSetMode, entry_of, with_directory, with_file, with_link, with_mode, without}
-use Rattle.host_tree.specs.declared.entry.Entry.TheVariants.{Link}
-use Rattle.host_acts.specs.Changes.{Becomes, IsUnlinked, MakesPrefix, SetsDue, Stands, content_put, directory_put, text_of, unlinked}
-use Rattle.host_acts.proofs.TellsLemmas.{on_ok_made, on_ok_then_made}
+use Rattle.host_tree.specs.Acts.{entry_of, with_directory}
+use Rattle.host_acts.specs.Changes.{Becomes, Stands, directory_put}
+use Rattle.host_acts.proofs.TellsLemmas.{on_ok_made}
 use Rattle.host_acts.proofs.ChangeLemmas.{makes_absent}
 use Rattle.host_acts.proofs.changes.make_absent.Goals as goal
 

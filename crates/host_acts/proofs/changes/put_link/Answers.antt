@@ -1,8 +1,8 @@
-use Rattle.std.proofs.Common.{◌≡◌, List, ℕ, Option, Some, None, option_map, refl, sym, ap, subst, ◌∙◌, rules, arith, get_or}
-use Rattle.host_tree.specs.Acts.{CanMake, CanSetMode, entry_of, with_directory, with_file, with_link, with_mode, without}
+use Rattle.std.proofs.Common.{Some}
+use Rattle.host_tree.specs.Acts.{entry_of, with_link}
 use Rattle.host_tree.specs.declared.entry.Entry.TheVariants.{Link}
-use Rattle.host_acts.specs.Changes.{Becomes, IsUnlinked, MakesPrefix, SetsDue, Stands, content_put, directory_put, text_of, unlinked}
-use Rattle.host_acts.proofs.TellsLemmas.{on_ok_made, on_ok_then_made}
+use Rattle.host_acts.specs.Changes.{Becomes, Stands, unlinked}
+use Rattle.host_acts.proofs.TellsLemmas.{on_ok_then_made}
 use Rattle.host_acts.proofs.ChangeLemmas.{relinks}
 use Rattle.host_acts.proofs.changes.put_link.Goals as goal
 

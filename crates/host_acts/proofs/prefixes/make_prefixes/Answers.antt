@@ -1,4 +1,4 @@
-use Rattle.std.proofs.Common.{◌≡◌, ℕ, ◌+◌, ◌<◌, ◌≤◌, Option, length, take, refl, sym, ap, subst, ◌∙◌, arith}
+use Rattle.std.proofs.Common.{◌+◌, ◌<◌, length, take, refl, ap, ◌∙◌, arith}
 use Rattle.host_tree.specs.Acts.{CanMake}
 use Rattle.host_acts.specs.Changes.{BuiltUpTo, MakesPrefix}
 use Rattle.host_acts.specs.Scanning.{BreaksAt}

@@ -1,4 +1,4 @@
-use Rattle.std.proofs.Common.{◌≡◌, ℕ, ◌<◌, ◌≤◌, length}
+use Rattle.std.proofs.Common.{◌≡◌, ◌≤◌}
 use Rattle.host_tree.specs.Told.{Tells}
 use Rattle.host_acts.specs.Changes.{BuiltUpTo}
 use Rattle.host_acts.proofs.prefixes.make_prefixes.Given as goal

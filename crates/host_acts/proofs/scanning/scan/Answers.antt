@@ -1,4 +1,4 @@
-use Rattle.std.proofs.Common.{◌≡◌, ◌≢◌, ◌<◌, ◌≤◌, Option, Some, None, length, refl, sym, ap, subst, ◌∙◌, arith}
+use Rattle.std.proofs.Common.{◌≡◌, ◌≢◌, ◌<◌, Option, None, length, sym, ap, subst, ◌∙◌, arith}
 use Rattle.host_tree.specs.Entries.{Entries, IsHost}
 use Rattle.host_tree.specs.Told.{Told}
 use Rattle.host_acts.specs.Scanning.{obstacle_ending}

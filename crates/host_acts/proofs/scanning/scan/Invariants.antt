@@ -1,5 +1,5 @@
-use Rattle.std.proofs.Common.{◌≡◌, ℕ, ◌<◌, ◌≤◌, Bool, true, List, length}
-use Rattle.host_tree.specs.Entries.{Entries, at, IsDirectory}
+use Rattle.std.proofs.Common.{◌≡◌, ℕ, ◌<◌, ◌≤◌, true, List, length}
+use Rattle.host_tree.specs.Entries.{at, IsDirectory}
 use Rattle.host_tree.specs.Paths.{is_above}
 use Rattle.host_tree.specs.Told.{Told}
 use Rattle.host_acts.proofs.scanning.scan.Given as goal
