@@ -11,9 +11,9 @@ pub mod LiteralLemmas
 pub mod LinesLemmas
 pub mod FaultLemmas
 pub mod WrittenLemmas
-pub mod BlockLemmas
 pub mod CutLemmas
 pub mod EscapedLemmas
 pub mod PlainLemmas
 pub mod PartLemmas
+pub mod BlockLemmas
 pub mod RoundTrip
