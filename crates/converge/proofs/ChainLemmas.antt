@@ -1,5 +1,5 @@
 -- Work lists that are performed one after another.
-use Rattle.std.proofs.Common.{◌≡◌, ℕ, ◌⊎◌, inl, inr, Bool, true, false, List, [], ◌∷◌, ◌++◌, Option, Some, None, reverse, refl, sym, ap, subst, ◌∙◌}
+use Rattle.std.proofs.Common.{◌≡◌, List, [], ◌∷◌, ◌++◌, Option, Some, None, refl, sym, ap, subst, ◌∙◌}
 use Rattle.std.proofs.lemmas.List.{append-nil, append_assoc}
 use Rattle.host_acts.specs.Acts as act
 use Rattle.host_acts.specs.Acts.{Act, Performs, PerformsPart}
@@ -15,7 +15,7 @@ use Rattle.notify_queue.specs.Queue.{with_pairs}
 use Rattle.notify_queue.specs.declared.pair.Pair.{Pair}
 use Rattle.resource_core.specs.Plans.{Planned}
 use Rattle.converge.specs.Going.{Stopped, Went, left_after}
-use Rattle.converge.specs.Pairs.{fires_of, task_of}
+use Rattle.converge.specs.Pairs.{task_of}
 use Rattle.converge.specs.Runs.{Chain, halts, queues, passes, keeps, updates, fails, IsInPart, deed}
 use Rattle.converge.specs.declared.deeds.Deed.{Deed}
 use Rattle.converge.specs.declared.firing.Fire.{Fire}

@@ -1,9 +1,7 @@
 -- What a run comes to, and what is known of it.
-use Rattle.std.proofs.Common.{◌≡◌, ℕ, List, [], ◌∷◌, ◌++◌, Option, Some, None, refl, sym, ap, subst, ◌∙◌}
+use Rattle.std.proofs.Common.{◌≡◌, List, [], ◌∷◌, Some, None, refl, sym, ap, subst, ◌∙◌}
 use Rattle.std.proofs.lemmas.List.{append-nil}
 use Rattle.host_acts.specs.declared.cause.Cause.{Cause}
-use Rattle.host_acts.specs.declared.verdict.Verdict.{Verdict}
-use Rattle.host_acts.specs.declared.verdict.Verdict.TheVariants.{UpToDate, Updated, Failed}
 use Rattle.host_tree.specs.Entries.{Entries}
 use Rattle.notify_queue.specs.declared.pair.Pair.{Pair}
 use Rattle.resource_core.specs.Plans.{Planned}
@@ -11,7 +9,7 @@ use Rattle.converge.proofs.SettledLemmas.{settled_stays, well_settles}
 use Rattle.converge.specs.Ending.{TellsEnd}
 use Rattle.converge.specs.Outcomes.{ComesTo, IsComplete, IsIdle, Settles, lack_in}
 use Rattle.converge.specs.Runs.{Begins, before_queued, IsCutOff, Run, failed_or, first_failed}
-use Rattle.converge.specs.Settled.{Agree, AreUpToDate, IsSettled}
+use Rattle.converge.specs.Settled.{Agree, AreUpToDate}
 use Rattle.converge.specs.declared.deeds.Deed.{Deed}
 use Rattle.converge.specs.declared.outcome.Outcome.{Outcome}
 use Rattle.converge.specs.declared.outcome.Outcome.TheVariants as of

@@ -1,13 +1,12 @@
 -- What is on a work list and in the queue is ready.
-use Rattle.std.proofs.Common.{◌≡◌, ◌≢◌, ℕ, zero, suc, ◌+◌, ◌<◌, ◌==◌, ◌⊎◌, inl, inr, Bool, true, false, not, ◌&&◌, ◌||◌, cond, IsTrue, List, [], ◌∷◌, ◌++◌, length, map, drop, get_or, reverse, Option, Some, None, is_some, slice_get, refl, sym, ap, subst, ◌∙◌, arith}
+use Rattle.std.proofs.Common.{◌≡◌, ◌≢◌, ℕ, zero, suc, ◌+◌, ◌<◌, Bool, true, false, not, ◌&&◌, ◌||◌, cond, IsTrue, List, [], ◌∷◌, ◌++◌, length, map, drop, get_or, Option, Some, None, is_some, slice_get, refl, sym, ap, subst, ◌∙◌, arith}
 use Rattle.std.specs.List.{list_all, list_any}
-use Rattle.std.proofs.lemmas.Bool.{cases_Bool, false≢true}
-use Rattle.std.proofs.lemmas.List.{reverse-append}
+use Rattle.std.proofs.lemmas.Bool.{false≢true}
 use Rattle.host_acts.specs.Tasks.{Offers, is_acting, needs, needs_by}
 use Rattle.host_acts.specs.declared.verdict.Verdict.{Verdict}
 use Rattle.host_acts.specs.declared.verdict.Verdict.TheVariants.{UpToDate, Updated, Failed}
 use Rattle.host_tree.specs.declared.caps.Caps.{Caps}
-use Rattle.notify_queue.specs.Queue.{IsWithin, Queued, has_pair, queue, with_pair}
+use Rattle.notify_queue.specs.Queue.{Queued, has_pair, queue, with_pair}
 use Rattle.notify_queue.specs.declared.pair.Pair.{Pair}
 use Rattle.resource_core.specs.Plans.{IsSound, Planned, has_action, is_aimed, is_immediate}
 use Rattle.resource_core.specs.Types.{row}
@@ -19,7 +18,7 @@ use Rattle.resource_core.specs.declared.types.ResourceType.{ResourceType}
 use Rattle.resource_core.specs.declared.types.ResourceType.TheVariants as kind
 use Rattle.converge.specs.Going.{AreReady, AreReadyFires, FiresReady, IsQueueOf, IsReady, left_after}
 use Rattle.converge.specs.Needs.{acts_on_link, fires_link, is_link, is_link_there, lacking, needs_links, needs_modes, states_mode}
-use Rattle.converge.specs.Pairs.{fire_of, fires_of, now_of, own, own_fires, own_from, pair_for, pair_of, place_in, place_on}
+use Rattle.converge.specs.Pairs.{fire_of, fires_of, now_of, own_fires, own_from, pair_for, pair_of, place_in, place_on}
 use Rattle.converge.specs.Settled.{fired_pair}
 use Rattle.converge.specs.declared.firing.Fire.{Fire}
 use Rattle.converge.specs.declared.firing.Fire.TheVariants.{Now, Later}

@@ -1,7 +1,6 @@
 -- A run, from its own actions through its queue to its end or to a fault.
-use Rattle.std.proofs.Common.{◌≡◌, ◌≢◌, ℕ, zero, suc, ◌+◌, ◌<◌, ◌≤◌, ◌⊎◌, inl, inr, Bool, true, false, ◌||◌, cond, List, [], ◌∷◌, ◌++◌, length, take, drop, Option, Some, None, slice_get, refl, sym, ap, subst, ◌∙◌, arith}
-use Rattle.std.specs.List.{list_any}
-use Rattle.std.proofs.lemmas.Bool.{cases_Bool, false≢true}
+use Rattle.std.proofs.Common.{◌≡◌, ◌≢◌, ℕ, zero, suc, ◌+◌, ◌<◌, ◌≤◌, ◌⊎◌, inl, inr, Bool, true, false, ◌||◌, cond, List, [], ◌∷◌, ◌++◌, length, take, drop, Some, None, slice_get, refl, sym, ap, subst, ◌∙◌, arith}
+use Rattle.std.proofs.lemmas.Bool.{false≢true}
 use Rattle.std.proofs.lemmas.List.{append-nil, append_assoc, take-append-drop}
 use Rattle.std.proofs.lemmas.List.Folds.{list_any-append}
 use Rattle.host_tree.specs.Entries.{Entries}
@@ -15,10 +14,9 @@ use Rattle.converge.proofs.ChainLemmas.{nothing_in_part}
 use Rattle.converge.proofs.SettledLemmas.{same_itself}
 use Rattle.converge.specs.Going.{RunStopped, Running, Stopped, Went}
 use Rattle.converge.specs.Pairs.{own_fires}
-use Rattle.converge.specs.Runs.{Begins, among_owns, among_queued, before_queued, Chain, halts, IsCutOff, Rest, at_first, and_next, Run}
+use Rattle.converge.specs.Runs.{among_owns, among_queued, before_queued, halts, Rest, at_first, and_next, Run}
 use Rattle.converge.specs.declared.deeds.Deed.{Deed}
-use Rattle.converge.specs.declared.firing.Fire.{Fire}
-use Rattle.converge.specs.declared.firing.Fire.TheVariants.{Now, Later}
+use Rattle.converge.specs.declared.firing.Fire.TheVariants.{Now}
 
 -- ---- first occurrences
 

@@ -1,12 +1,10 @@
 -- What runs leave: wants that agree are kept, and on a settled host nothing is done.
 use Rattle.std.proofs.Common.{◌≡◌, ◌≢◌, ℕ, ◌==◌, ◌⊎◌, inl, inr, Bool, true, false, ◌&&◌, ◌||◌, List, [], ◌∷◌, ◌++◌, map, Option, Some, None, refl, sym, ap, subst, ◌∙◌, arith}
 use Rattle.std.specs.Prelude.{⊤}
-use Rattle.std.specs.List.{list_any}
-use Rattle.std.proofs.lemmas.Bool.{and_parts, cases_Bool, eqb-true, false≢true}
+use Rattle.std.proofs.lemmas.Bool.{eqb-true, false≢true}
 use Rattle.std.proofs.lemmas.List.{append-nil}
-use Rattle.std.proofs.lemmas.List.Folds.{list_any-append}
 use Rattle.host_acts.proofs.KeptLemmas.{agreeing_suit, updates_keep}
-use Rattle.host_acts.specs.Acts.{Act, IsDone}
+use Rattle.host_acts.specs.Acts.{IsDone}
 use Rattle.host_acts.specs.Agreeing.{Agrees, HoldsIn}
 use Rattle.host_acts.specs.Tasks.{Task, wanted_by}
 use Rattle.host_acts.specs.Wants.{Wanted}
@@ -14,11 +12,11 @@ use Rattle.host_acts.specs.declared.cause.Cause.{Cause}
 use Rattle.host_acts.specs.declared.verdict.Verdict.{Verdict}
 use Rattle.host_acts.specs.declared.verdict.Verdict.TheVariants.{UpToDate, Updated, Failed}
 use Rattle.host_tree.specs.Entries.{Entries}
-use Rattle.notify_queue.specs.Queue.{firsts, has_pair, same_pair}
+use Rattle.notify_queue.specs.Queue.{has_pair, same_pair}
 use Rattle.notify_queue.specs.declared.pair.Pair.{Pair}
 use Rattle.resource_core.specs.Plans.{Planned}
 use Rattle.converge.specs.Pairs.{fires_of, now_of, own, own_fires, task_of}
-use Rattle.converge.specs.Runs.{Chain, halts, queues, passes, keeps, updates, fails, Rest, at_first, and_next, Run, deed, failed_or, first_failed}
+use Rattle.converge.specs.Runs.{Chain, halts, queues, passes, keeps, updates, fails, Rest, at_first, and_next, Run, failed_or, first_failed}
 use Rattle.converge.specs.Settled.{Agree, AreUpToDate, IsSettled, IsStated, own_action, notified, SettledStays, WellSettles, fired_pair, fired_pairs}
 use Rattle.converge.specs.declared.deeds.Deed.{Deed}
 use Rattle.converge.specs.declared.firing.Fire.{Fire}

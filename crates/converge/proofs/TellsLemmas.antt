@@ -1,5 +1,5 @@
 -- What is said of a host that may tell, from call to call.
-use Rattle.std.proofs.Common.{◌≡◌, Option, Some, None, refl, sym, subst}
+use Rattle.std.proofs.Common.{◌≡◌, Option, Some, None, sym, subst}
 use Rattle.host_tree.specs.Entries.{Entries}
 use Rattle.host_tree.specs.Told.{Tells}
 

@@ -2,11 +2,11 @@
 use Rattle.std.proofs.Common.{◌≡◌, ℕ, zero, suc, ◌+◌, ◌*◌, ◌^◌, ◌<◌, ◌≤◌, ◌==◌, Bool, true, false, ◌||◌, cond, List, [], ◌∷◌, ◌++◌, length, map, get_or, refl, sym, ap, subst, ◌∙◌, arith}
 use Rattle.std.specs.List.{list_any, filter}
 use Rattle.std.proofs.Math.Nat.{one-le-pow, pow-le-pow_right, pow-suc, mul-le-mul_right}
-use Rattle.std.proofs.lemmas.Bool.{cases_Bool, false≢true}
+use Rattle.std.proofs.lemmas.Bool.{false≢true}
 use Rattle.host_acts.specs.declared.verdict.Verdict.{Verdict}
 use Rattle.host_acts.specs.declared.verdict.Verdict.TheVariants.{UpToDate, Updated, Failed}
 use Rattle.notify_queue.specs.declared.pair.Pair.{Pair}
-use Rattle.resource_core.specs.Graph.{Falls, leads_at_once}
+use Rattle.resource_core.specs.Graph.{Falls}
 use Rattle.resource_core.specs.Plans.{Planned, is_immediate, nexts, nexts_of}
 use Rattle.resource_core.specs.declared.links.Notification.{Notification}
 use Rattle.converge.specs.Going.{all_fired, base, left_after, weight, weights}

@@ -1,5 +1,4 @@
 -- Failures as pairs, for the private clauses.
-use Rattle.std.specs.Prelude.{ℕ}
 use Rattle.host_acts.specs.declared.cause.Cause.{Cause}
 use Rattle.notify_queue.specs.declared.pair.Pair.{Pair}
 use Rattle.converge.specs.declared.deeds.Failure.{Failure}

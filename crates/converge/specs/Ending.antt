@@ -1,5 +1,5 @@
 -- What a run that ended comes to, by its acts, for the private clauses.
-use Rattle.std.specs.Prelude.{◌≡◌, ℕ, List, Option, Some, None, ⊤}
+use Rattle.std.specs.Prelude.{◌≡◌, List, Some, None, ⊤}
 use Rattle.resource_core.specs.Plans.{Planned}
 use Rattle.converge.specs.Reports.{lines_of, whole_report}
 use Rattle.converge.specs.Runs.{first_failed}

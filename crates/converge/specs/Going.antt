@@ -1,5 +1,5 @@
 -- How far a run has come, for the private clauses.
-use Rattle.std.specs.Prelude.{◌≡◌, ℕ, suc, ◌+◌, ◌^◌, ◌<◌, List, [], ◌∷◌, ◌++◌, length, Option, Some, None, ⊤, slice_get, slice_index, take}
+use Rattle.std.specs.Prelude.{◌≡◌, ℕ, suc, ◌+◌, ◌^◌, List, [], ◌∷◌, ◌++◌, length, Some, ⊤, slice_get, slice_index, take}
 use Rattle.host_acts.specs.Tasks.{Offers, needs}
 use Rattle.host_acts.specs.declared.verdict.Verdict.{Verdict}
 use Rattle.host_acts.specs.declared.verdict.Verdict.TheVariants.{UpToDate, Updated, Failed}

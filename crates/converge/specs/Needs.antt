@@ -1,5 +1,5 @@
 -- What a plan needs of a host.
-use Rattle.std.specs.Prelude.{ℕ, Bool, true, false, not, ◌&&◌, ◌||◌, List, Option, Some, None, is_some, slice_get, if◌then◌else◌}
+use Rattle.std.specs.Prelude.{Bool, true, false, not, ◌&&◌, ◌||◌, List, Option, Some, None, is_some, slice_get, if◌then◌else◌}
 use Rattle.std.specs.List.{list_any}
 use Rattle.host_acts.specs.Tasks.{is_acting}
 use Rattle.host_tree.specs.declared.caps.Caps.{Caps}

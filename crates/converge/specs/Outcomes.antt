@@ -1,5 +1,5 @@
 -- What a run comes to.
-use Rattle.std.specs.Prelude.{◌≡◌, ◌≢◌, ℕ, Bool, true, false, List, [], ◌∷◌, Option, Some, None, ⊤}
+use Rattle.std.specs.Prelude.{◌≡◌, ℕ, Bool, true, false, List, Option, Some, None, ⊤}
 use Rattle.host_acts.specs.declared.cause.Cause.{Cause}
 use Rattle.host_tree.specs.Entries.{Entries}
 use Rattle.notify_queue.specs.declared.pair.Pair.{Pair}

@@ -1,8 +1,7 @@
 -- The pairs of a plan: what is to be done by each, and what each fires.
-use Rattle.std.specs.Prelude.{◌≡◌, ℕ, suc, Bool, true, List, [], ◌∷◌, ◌++◌, map, Option, Some, None, option_and_then, slice_get, slice_index_or, IsTrue, if◌then◌else◌}
+use Rattle.std.specs.Prelude.{ℕ, suc, List, [], ◌∷◌, ◌++◌, map, Option, Some, None, option_and_then, slice_get, slice_index_or, if◌then◌else◌}
 use Rattle.std.specs.List.{position_or_len}
 use Rattle.host_acts.specs.Tasks.{Task, task}
-use Rattle.notify_queue.specs.Queue.{has_pair}
 use Rattle.notify_queue.specs.declared.pair.Pair.{Pair}
 use Rattle.resource_core.specs.Plans.{Planned, is_immediate, same_action}
 use Rattle.resource_core.specs.Types.{row}

@@ -1,7 +1,6 @@
 -- The lines of a report.
 use Rattle.std.specs.Prelude.{ℕ, Bool, true, false, List, [], ◌∷◌, ◌++◌, map, length, count_by, decimal, Option, Some, None, codes, slice_get}
 use Rattle.host_acts.specs.Causes as causes
-use Rattle.host_acts.specs.declared.cause.Cause.{Cause}
 use Rattle.host_acts.specs.declared.verdict.Verdict.{Verdict}
 use Rattle.host_acts.specs.declared.verdict.Verdict.TheVariants.{UpToDate, Updated, Failed}
 use Rattle.resource_core.specs.Plans.{Planned}

@@ -1,5 +1,5 @@
 -- A run: the acts that a plan makes of a host, in order.
-use Rattle.std.specs.Prelude.{◌≡◌, ℕ, Bool, true, List, [], ◌∷◌, ◌++◌, Option, Some, None, IsTrue}
+use Rattle.std.specs.Prelude.{◌≡◌, true, List, [], ◌∷◌, ◌++◌, Option, Some, None}
 use Rattle.host_acts.specs.Acts.{Act, PerformsPart}
 use Rattle.host_acts.specs.Tasks.{Task}
 use Rattle.host_acts.specs.declared.cause.Cause.{Cause}

@@ -1,5 +1,5 @@
 -- Plans whose wants agree, and hosts on which nothing is left to do.
-use Rattle.std.specs.Prelude.{◌≡◌, Bool, true, false, List, [], ◌∷◌, Option, Some, None, ⊤}
+use Rattle.std.specs.Prelude.{◌≡◌, true, List, [], ◌∷◌, Some, None, ⊤}
 use Rattle.host_acts.specs.Acts.{IsDone}
 use Rattle.host_acts.specs.Agreeing.{Agrees}
 use Rattle.host_acts.specs.Tasks.{Task, wanted_by}

@@ -1,5 +1,5 @@
 -- One step more of a work list, over a host that may tell.
-use Rattle.std.proofs.Common.{◌≡◌, ◌≤◌, List, [], ◌∷◌, ◌++◌, reverse, refl, sym, ap, subst, ◌∙◌, arith}
+use Rattle.std.proofs.Common.{◌≡◌, List, [], ◌∷◌, ◌++◌, reverse, refl, sym, ap, subst, ◌∙◌, arith}
 use Rattle.std.proofs.lemmas.List.{reverse-append}
 use Rattle.host_tree.specs.Told.{Tells}
 use Rattle.host_tree.specs.declared.caps.Caps.{Caps}

@@ -1,5 +1,5 @@
 -- A pair is performed at once, or queued.
-use Rattle.std.proofs.Common.{◌≡◌, OnOk, List, [], ◌∷◌, reverse, refl, sym, ap, subst}
+use Rattle.std.proofs.Common.{OnOk, ◌∷◌, reverse, refl, sym, ap, subst}
 use Rattle.host_tree.specs.Told.{Tells}
 use Rattle.notify_queue.specs.Queue.{Queued}
 use Rattle.converge.proofs.ChainLemmas.{went_queued}
@@ -8,7 +8,7 @@ use Rattle.converge.proofs.TellsLemmas.{tells_same}
 use Rattle.converge.specs.Going.{IsReady, Went}
 use Rattle.converge.specs.Settled.{fired_pair}
 use Rattle.converge.specs.declared.firing.Fire.{Fire}
-use Rattle.converge.specs.declared.firing.Fire.TheVariants.{Now, Later}
+use Rattle.converge.specs.declared.firing.Fire.TheVariants.{Later}
 use Rattle.converge.proofs.chains.turn.Goals as goal
 
 pub returns-in-Now-clause-went : goal.returns-in-Now-clause-went

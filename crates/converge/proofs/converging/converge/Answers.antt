@@ -1,5 +1,4 @@
 -- What is known of an outcome, over a host that may tell.
-use Rattle.std.proofs.Common.{◌≡◌, None}
 use Rattle.converge.proofs.EndLemmas.{comes_complete, comes_idle, comes_settled}
 use Rattle.converge.proofs.TellsLemmas.{tells_map}
 use Rattle.converge.specs.Outcomes.{ComesTo, IsComplete, IsIdle, Settles}
