@@ -1,4 +1,5 @@
 pub mod Signs
+pub mod Pairs
 pub mod Machine
 pub mod Quoted
 pub mod Scalar

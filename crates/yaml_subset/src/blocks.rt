@@ -118,7 +118,7 @@ fn fill(alloc: Global, document: Document, frame: Frame) -> Result<Frame, NoMemo
                 pairs,
                 key,
             } = map;
-            let pairs = pairs.with(key, document)?;
+            let pairs = pairs.with(alloc, key, document)?;
             Ok(open_map(room, column, pairs, no_key(alloc)))
         }
     }
@@ -207,11 +207,11 @@ fn opens_map(
     )))
 }
 
-fn settled_pairs(due: bool, key: Text, pairs: Pairs) -> Result<Pairs, NoMemory>
+fn settled_pairs(alloc: Global, due: bool, key: Text, pairs: Pairs) -> Result<Pairs, NoMemory>
     ensures { IfOk result (λ ps. ps ≡ settled_pairs due key pairs) }
 {
     if due {
-        pairs.with(key, Document::null())
+        pairs.with(alloc, key, Document::null())
     } else {
         Ok(pairs)
     }
@@ -263,7 +263,7 @@ fn place_key(
         Frame::InList(list) => opens_map(alloc, column, key, due, Frame::InList(list), below),
         Frame::InMap(map) => {
             if map.column == column {
-                key_in_map(key, due, map, below)
+                key_in_map(alloc, key, due, map, below)
             } else {
                 opens_map(alloc, column, key, due, Frame::InMap(map), below)
             }
@@ -273,6 +273,7 @@ fn place_key(
 
 // One key more of a map.
 fn key_in_map(
+    alloc: Global,
     key: Text,
     due: bool,
     map: OpenMap,
@@ -286,7 +287,7 @@ fn key_in_map(
         pairs,
         key: last,
     } = map;
-    let pairs = settled_pairs(due, last, pairs)?;
+    let pairs = settled_pairs(alloc, due, last, pairs)?;
     Ok(next_key(key, room, column, pairs, below))
 }
 

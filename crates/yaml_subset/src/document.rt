@@ -27,6 +27,13 @@ impl Model for Document {
 }
 
 impl Document {
+    /// A tree.
+    pub(crate) fn of(tree: Tree) -> Document
+        ensures { result ≡ doc_of tree }
+    {
+        Document { tree }
+    }
+
     /// The null.
     pub(crate) fn null() -> Document
         ensures { result ≡ null }

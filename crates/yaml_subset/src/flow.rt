@@ -79,7 +79,7 @@ fn put(alloc: Global, document: Document, bracket: Bracket) -> Result<Bracket, N
             Ok(Bracket::InList(trees))
         }
         Bracket::InMap(pairs, key) => {
-            let pairs = pairs.with(key, document)?;
+            let pairs = pairs.with(alloc, key, document)?;
             Ok(Bracket::InMap(pairs, no_key(alloc)))
         }
     }

@@ -1,19 +1,35 @@
 //! The keys of a map that is being read, each with its document.
 ghost use Rattle.doc_tree.specs.Doc.{pairs_of};
 ghost use Rattle.doc_tree.specs.Part.{pair_at, with_pair};
-ghost use Rattle.std.specs.Prelude.{◌≡◌, [], IfOk, is_some};
+ghost use Rattle.doc_tree.specs.Tree.{pair_of};
+ghost use Rattle.doc_tree.specs.Valid.{InOrder};
+ghost use Rattle.std.specs.Map.{keys_of};
+ghost use Rattle.std.specs.Prelude.{◌≡◌, ◌++◌, ◌∷◌, [], IfOk, OnOk, is_some};
+ghost use Rattle.yaml_subset.specs.Pairs.{pairs_held};
 
 use crate::document::Document;
-use doc_tree::{Fields, NoMemory, Text};
+use doc_tree::{Field, Fields, NoMemory, Text};
 use std::alloc::Global;
 use std::collections::BTreeMap;
 use std::marker::Model;
 
-/// The keys of a map, each with its document, in the order of their bytes whatever the order of the text: a key goes
-/// in without that all behind it moves. Contracts see the list of them.
+/// How many keys may come in any order before they are held in a map.
+const FEW: usize = 32;
+
+/// In what the keys are held.
+#[derive(Drop)]
+pub(crate) enum Held {
+    /// Keys each of which came behind all before it in their order, or few keys.
+    Listed(Fields),
+    /// Keys of which one came before another in their order: it goes in without that all behind it moves.
+    Mapped(BTreeMap<Text, Document>),
+}
+
+/// The keys of a map, each with its document, in the order of their bytes whatever the order of the text. Contracts
+/// see the list of them.
 #[derive(Drop)]
 pub(crate) struct Pairs {
-    held: BTreeMap<Text, Document>,
+    held: Held,
 }
 
 impl Model for Pairs {
@@ -21,12 +37,13 @@ impl Model for Pairs {
     ghost use Rattle.std.specs.Coded.{coded_ℕ, coded_list, coded×};
     ghost use Rattle.doc_tree.specs.Doc.{Doc};
     ghost use Rattle.doc_tree.specs.DocCode.{doc_code};
+    ghost use Rattle.yaml_subset.specs.Pairs.{pairs_held};
 
     ghost Value = { List (List ℕ × Doc) };
 
     ghost coded = { coded_list (coded× (coded_list coded_ℕ) doc_code) };
 
-    ghost view = { λ p. p.held.entries };
+    ghost view = { λ p. pairs_held p.held };
 }
 
 impl Pairs {
@@ -35,7 +52,7 @@ impl Pairs {
         ensures { result ≡ [] }
     {
         Pairs {
-            held: BTreeMap::new(alloc),
+            held: Held::Listed(Fields::new(alloc)),
         }
     }
 
@@ -43,16 +60,25 @@ impl Pairs {
     pub(crate) fn has(&self, key: &Text) -> bool
         ensures { result ≡ is_some (pair_at key.now (pairs_of self.now)) }
     {
-        self.held.contains_key(key)
+        match &self.held {
+            Held::Listed(fields) => fields.get(key.as_str()).is_some(),
+            Held::Mapped(map) => is_mapped(map, key),
+        }
     }
 
     /// One key more, or another document at a key that is there.
-    pub(crate) fn with(self, key: Text, document: Document) -> Result<Pairs, NoMemory>
+    pub(crate) fn with(
+        self,
+        alloc: Global,
+        key: Text,
+        document: Document,
+    ) -> Result<Pairs, NoMemory>
         ensures { IfOk result (λ pairs. pairs ≡ with_pair key document self) }
     {
-        let Pairs { mut held } = self;
-        held.insert(key, document)?;
-        Ok(Pairs { held })
+        let Pairs { held } = self;
+        Ok(Pairs {
+            held: held_with(alloc, held, key, document)?,
+        })
     }
 
     /// The fields of a dict, which are moved out.
@@ -60,15 +86,85 @@ impl Pairs {
         ensures { IfOk result (λ fields. fields ≡ self) }
     {
         let Pairs { held } = self;
-        fields_from(alloc, held)
+        match held {
+            Held::Listed(fields) => Ok(fields),
+            Held::Mapped(map) => fields_from(alloc, map),
+        }
     }
 }
 
-fn fields_from(alloc: Global, held: BTreeMap<Text, Document>) -> Result<Fields, NoMemory>
-    ensures { IfOk result (λ fields. fields ≡ held.entries) }
+fn is_mapped(map: &BTreeMap<Text, Document>, key: &Text) -> bool
+    ensures { result ≡ is_some (pair_at key.now (pairs_of map.now.entries)) }
 {
-    let mut fields = Fields::with_capacity(alloc, held.len())?;
-    for (key, document) in held {
+    map.contains_key(key)
+}
+
+fn held_with(alloc: Global, held: Held, key: Text, document: Document) -> Result<Held, NoMemory>
+    ensures { IfOk result (λ after. pairs_held after ≡ with_pair key document (pairs_held held)) }
+{
+    match held {
+        Held::Listed(fields) => {
+            if stays_listed(&fields, &key) {
+                listed_with(fields, key, document)
+            } else {
+                mapped_with(map_from(alloc, fields)?, key, document)
+            }
+        }
+        Held::Mapped(map) => mapped_with(map, key, document),
+    }
+}
+
+/// Whether a key goes into the list: there are few, or it stands behind the last.
+fn stays_listed(fields: &Fields, key: &Text) -> bool {
+    match fields.as_slice().last() {
+        Some(last) => fields.len() < FEW || last.key < *key,
+        None => true,
+    }
+}
+
+fn listed_with(mut fields: Fields, key: Text, document: Document) -> Result<Held, NoMemory>
+    ensures { IfOk result (λ after. pairs_held after ≡ with_pair key document fields) }
+{
+    fields.put(key, document.into_tree())?;
+    Ok(Held::Listed(fields))
+}
+
+fn mapped_with(
+    mut map: BTreeMap<Text, Document>,
+    key: Text,
+    document: Document,
+) -> Result<Held, NoMemory>
+    ensures { IfOk result (λ after. pairs_held after ≡ with_pair key document map.entries) }
+{
+    map.insert(key, document)?;
+    Ok(Held::Mapped(map))
+}
+
+fn map_from(alloc: Global, fields: Fields) -> Result<BTreeMap<Text, Document>, NoMemory>
+    ensures { IfOk result (λ map. map.entries ≡ fields) }
+{
+    let mut map = BTreeMap::new(alloc);
+    for field in fields.into_vec() {
+        add_last(&mut map, field)?;
+    }
+    Ok(map)
+}
+
+/// Adds a field whose key stands behind those that are there.
+#[tactic(auto, using(crate::proofs::PairsLemmas::insert_last))]
+fn add_last(map: &mut BTreeMap<Text, Document>, field: Field) -> Result<(), NoMemory>
+    requires { InOrder (keys_of map.old.entries ++ field.key ∷ []) }
+    ensures { OnOk result (map.new.entries ≡ map.old.entries ++ pair_of field ∷ []) }
+{
+    map.insert(field.key, Document::of(field.tree))?;
+    Ok(())
+}
+
+fn fields_from(alloc: Global, map: BTreeMap<Text, Document>) -> Result<Fields, NoMemory>
+    ensures { IfOk result (λ fields. fields ≡ map.entries) }
+{
+    let mut fields = Fields::with_capacity(alloc, map.len())?;
+    for (key, document) in map {
         fields.push(key, document.into_tree())?;
     }
     Ok(fields)
