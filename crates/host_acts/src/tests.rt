@@ -230,8 +230,7 @@ fn faulty_told(alloc: Global, call: u64, caps: Caps) -> Result<String, Fail> {
     let act = r#"{"type":"directory","do":"create","path":"/p/q/r","recursive":true,"mode":448}"#;
     let mut host = FaultyHost::over(ImageHost::new(alloc), caps, failing_at(alloc, call)?);
     let told = line_told(alloc, act, &mut host)?;
-    let image = host.into_image();
-    let after = image_text(alloc, &image)?;
+    let after = image_text(alloc, host.image_host())?;
     Ok(format!(in alloc; "{told} {after}")?)
 }
 
