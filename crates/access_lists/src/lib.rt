@@ -7,15 +7,19 @@ mod group;
 mod group_map;
 mod groups;
 mod laws;
+#[cfg(test)]
+mod listing_tests;
 mod lists;
 mod member_kind;
-#[cfg(test)]
-mod member_tests;
 mod name_set;
 mod perm;
 mod permission;
+#[cfg(test)]
+mod permission_tests;
 mod reading;
 mod starting;
+#[cfg(test)]
+mod stranger_tests;
 #[cfg(test)]
 mod tests;
 mod text_set;

@@ -19,7 +19,7 @@ use Rattle.object_store.specs.Objects.{key}
 use Rattle.object_store.specs.declared.key.Key.{Key}
 use Rattle.route_table.specs.declared.verbs.Verb.{Verb}
 use Rattle.route_table.specs.declared.verbs.Verb.TheVariants.{Get, Post, Put, Delete, Other}
-use Rattle.org_core.proofs.AccessConditionsLemmas.{list_known}
+use Rattle.org_core.proofs.ListedLemmas.{list_known}
 use Rattle.org_core.proofs.ConditionsLemmas.{created_known, put_list_keeps, create_group_keeps, replace_group_keeps, remove_group_keeps, create_user_keeps, remove_user_keeps}
 use Rattle.org_core.proofs.ReadLemmas.{IsRead, read_body, some_named, text_named}
 use Rattle.org_core.specs.Bodies.{document_in, object_in_body}

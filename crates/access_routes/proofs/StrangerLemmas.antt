@@ -20,7 +20,8 @@ use Rattle.access_lists.specs.Strangers as membership
 use Rattle.access_lists.specs.TextSets.{text_cmp, lists}
 use Rattle.access_lists.proofs.TextSetLemmas.{any-tied}
 use Rattle.doc_tree.specs.Doc.{Doc}
-use Rattle.org_core.proofs.AccessConditionsLemmas.{NamesKnown, either, same_name}
+use Rattle.org_core.proofs.ListedLemmas.{NamesKnown}
+use Rattle.org_core.proofs.MembershipLemmas.{either, same_name}
 use Rattle.org_core.specs.AccessConditions.{has_member}
 use Rattle.org_core.specs.Refusals.{refuses, first_some}
 use Rattle.org_core.specs.declared.refusals.Refusal.{Refusal}

@@ -40,7 +40,7 @@ use Rattle.org_core.specs.declared.routes.DataRoute.TheVariants as data_route
 use Rattle.org_core.specs.declared.routes.ObjectsRoute.{ObjectsRoute}
 use Rattle.org_core.specs.declared.routes.ObjectsRoute.TheVariants.{All, One}
 use Rattle.org_core.proofs.ConditionsLemmas.{IsListedKey, created_known, create_keeps, create_client_keeps, replace_keeps, put_item_keeps, remove_keeps, remove_client_keeps, remove_item_keeps, remove_bag_keeps, start_keeps}
-use Rattle.org_core.proofs.AccessConditionsLemmas.{has_own_list}
+use Rattle.org_core.proofs.ListedLemmas.{has_own_list}
 use Rattle.org_core.proofs.ReadLemmas.{IsRead, read_body, some_named, text_named}
 use Rattle.org_core.proofs.ObjectConditionsLemmas.{same_keys, one_bag}
 use Rattle.org_core.specs.Bodies.{object_in_body}

@@ -17,7 +17,8 @@ use Rattle.doc_tree.specs.declared.kind.Kind.TheVariants as kinds
 use Rattle.object_store.specs.Items.{item_name, ids_in}
 use Rattle.object_store.specs.Objects.{Objects, key, key_cmp}
 use Rattle.object_store.specs.declared.key.Key.{Key}
-use Rattle.org_core.proofs.AccessConditionsLemmas.{NamesKnown, Comes, comes_client, contains-left, contains-put, has_own_list, known_grows, left-at, list_known, objects_alone, put-at, put_list, put_with_list, take_with_list, with_known}
+use Rattle.org_core.proofs.ListedLemmas.{NamesKnown, has_own_list, known_grows, left-at, list_known, objects_alone, put-at, put_list, put_with_list, take_with_list, with_known}
+use Rattle.org_core.proofs.MembershipLemmas.{Comes, comes_client, contains-left, contains-put}
 use Rattle.org_core.proofs.AccessConditionsLemmas as lemmas
 use Rattle.org_core.proofs.ObjectConditionsLemmas.{items_taken_out, keeps_bag_removal, keeps_first, keeps_put, keeps_take_out, nobody_taken_out, same_keys, without_items}
 use Rattle.org_core.proofs.StartingConditionsLemmas.{key_named, started, starting_known, starts, starts_without_clients}

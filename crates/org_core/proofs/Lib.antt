@@ -1,4 +1,7 @@
 pub mod ObjectConditionsLemmas
+pub mod MembershipLemmas
+pub mod ActorsLemmas
+pub mod ListedLemmas
 pub mod AccessConditionsLemmas
 pub mod StartingConditionsLemmas
 pub mod ConditionsLemmas

@@ -25,7 +25,8 @@ use Rattle.doc_tree.specs.declared.kind.Kind.{Kind}
 use Rattle.doc_tree.specs.declared.kind.Kind.TheVariants as kinds
 use Rattle.object_store.specs.Objects.{Lists, key, key_cmp}
 use Rattle.object_store.specs.declared.key.Key.{Key}
-use Rattle.org_core.proofs.AccessConditionsLemmas.{NamesKnown, either, itself, same_name, get-put, put-at, nobody_in}
+use Rattle.org_core.proofs.ListedLemmas.{NamesKnown, put-at}
+use Rattle.org_core.proofs.MembershipLemmas.{either, itself, same_name, get-put, nobody_in}
 use Rattle.org_core.proofs.ObjectConditionsLemmas.{same_keys, ties_itself}
 use Rattle.org_core.specs.AccessConditions.{has_listed, has_member, AccessConditions, HasItsClients}
 use Rattle.org_core.specs.ObjectConditions.{has}
