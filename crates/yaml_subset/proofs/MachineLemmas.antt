@@ -1,5 +1,6 @@
 -- How a mark comes to the block that it goes into.
 use Rattle.std.proofs.Common.{◌≡◌, ◌∷◌, ◌++◌, [], ℕ, List, Bool, true, false, Option, Some, None, option_and_then, refl, ap, sym, ◌∙◌}
+use Rattle.std.specs.Bool.{then_some}
 use Rattle.doc_tree.specs.Doc.{words}
 use Rattle.yaml_subset.specs.Machine.{closes, land, place, run, step, wants}
 use Rattle.yaml_subset.specs.Layout.{is_lone, mark_of, rest_marks}
@@ -17,6 +18,16 @@ land_stops m due f (g ∷ below) stays = rw stays refl
 pub land_ends : (m : Mark) (due : Bool) (f : Frame) (below : List Frame) → closes m f ≡ true → below ≡ [] → land m due f below ≡ None
 land_ends m due f [] leaves none = rw leaves refl
 land_ends m due f (g ∷ below) leaves none = cc
+
+-- ---- what a step that says whether it goes on comes to
+
+pub goes : {T : Type 0} (b : Bool) (x : T) (o : Option T) → then_some b x ≡ o → b ≡ true → o ≡ Some x
+goes true x o is holds = sym is
+goes false x o is holds = cc
+
+pub stops : {T : Type 0} (b : Bool) (x : T) (o : Option T) → then_some b x ≡ o → b ≡ false → o ≡ None
+stops true x o is no_ = cc
+stops false x o is no_ = sym is
 
 -- ---- marks, one by one
 

@@ -1,12 +1,17 @@
 -- The keys of a map that is read, as entries in order.
-use Rattle.std.proofs.Common.{◌≡◌, ℕ, List, [], ◌∷◌, ◌++◌, cond, Some, Less, Greater, nat_cmp, bytes_eq, refl, ap, ◌∙◌}
+use Rattle.std.proofs.Common.{◌≡◌, ◌≤◌, ◌<◌, ◌+◌, ◌-◌, ℕ, zero, suc, List, [], ◌∷◌, ◌++◌, length, map, option_map, slice_get, Bool, cond, Some, None, true, false, Less, Equal, Greater, is_lt, nat_cmp, bytes_eq, is_eq, refl, sym, ap, ◌∙◌, subst, arith}
 use Rattle.std.proofs.lemmas.Map.Text.{is_eq-slice_cmp}
+use Rattle.std.proofs.lemmas.List.{length-map}
+use Rattle.std.proofs.lemmas.Option.{none-some, same_Some, slice_get-get_or, slice_get-map}
 use Rattle.std.specs.BTreeMap.{insert_entry, is_at}
 use Rattle.std.specs.Cmp.Lexicographic.{slice_cmp, nat_list_cmp_total}
 use Rattle.std.specs.List.{AllByRecursion}
 use Rattle.std.specs.List.Sorted.{IsStrictlySortedBy}
 use Rattle.std.specs.Map.{keys_of, lookup}
 use Rattle.std.specs.Ordering.{match_ordering, ordering_reverse}
+use Rattle.std.specs.declared.cmp.Ordering.{Ordering}
+use Rattle.doc_tree.specs.Tree.{pair_of}
+use Rattle.doc_tree.specs.declared.tree.Field.{Field}
 use Rattle.doc_tree.specs.Doc.{Doc, pairs_of}
 use Rattle.doc_tree.specs.Part.{pair_at}
 use Rattle.doc_tree.specs.Valid.{InOrder}
@@ -29,6 +34,13 @@ unfolding IsStrictlySortedBy
 front_in_order [] ys e order = (tt, tt)
 front_in_order (x ∷ xs) ys e order = (all_front _ xs ys e order.0, front_in_order xs ys e order.1)
 
+last_of : (P : List ℕ → Type 0) (es : List (List ℕ × Doc)) (key : List ℕ) → AllByRecursion P (keys_of es ++ key ∷ []) → P key
+last_of P [] key all = all.0
+last_of P (e ∷ es) key all = last_of P es key all.1
+
+above : (one key : List ℕ) → slice_cmp nat_cmp one key ≡ Less → slice_cmp nat_cmp key one ≡ Greater
+above one key less = nat_list_cmp_total.antisymm key one ∙ ap ordering_reverse less
+
 -- a key behind all others goes to the end
 pub insert_last : (es : List (List ℕ × Doc)) (key : List ℕ) (d : Doc) → InOrder (keys_of es ++ key ∷ []) → insert_entry (slice_cmp nat_cmp) es key d ≡ es ++ (key, d) ∷ []
 unfolding IsStrictlySortedBy
@@ -36,10 +48,57 @@ insert_last [] key d order = refl
 insert_last (e ∷ es) key d order =
     ap (λ o. match_ordering o ((key, d) ∷ e ∷ es) ((e.0, d) ∷ es) (e ∷ insert_entry (slice_cmp nat_cmp) es key d)) (above e.0 key (last_of _ es key order.0))
     ∙ ap (λ rest. e ∷ rest) (insert_last es key d order.1)
-  where
-    last_of : (P : List ℕ → Type 0) (es : List (List ℕ × Doc)) (key : List ℕ) → AllByRecursion P (keys_of es ++ key ∷ []) → P key
-    last_of P [] key all = all.0
-    last_of P (e ∷ es) key all = last_of P es key all.1
 
-    above : (one key : List ℕ) → slice_cmp nat_cmp one key ≡ Less → slice_cmp nat_cmp key one ≡ Greater
-    above one key less = nat_list_cmp_total.antisymm key one ∙ ap ordering_reverse less
+-- and is at none of them
+pub none_behind : (es : List (List ℕ × Doc)) (key : List ℕ) → InOrder (keys_of es ++ key ∷ []) → pair_at key (pairs_of es) ≡ None
+unfolding IsStrictlySortedBy
+none_behind [] key order = refl
+none_behind (e ∷ es) key order = rw (other (last_of _ es key order.0)) (none_behind es key order.1)
+  where
+    other : slice_cmp nat_cmp e.0 key ≡ Less → bytes_eq e.0 key ≡ false
+    other less = sym (is_eq-slice_cmp e.0 key) ∙ ap is_eq less
+
+-- ---- a key above the last one
+
+entry_at : (P : List ℕ → Type 0) (es : List (List ℕ × Doc)) (i : ℕ) (e : List ℕ × Doc) → slice_get es i ≡ Some e → AllByRecursion P (keys_of es) → P e.0
+entry_at P [] i e is all = cc
+entry_at P (x ∷ es) zero e is all = subst (λ (r : List ℕ × Doc). P r.0) (same_Some x e is) all.0
+entry_at P (x ∷ es) (suc i) e is all = entry_at P es i e is all.1
+
+all_with : (P : List ℕ → Type 0) (es : List (List ℕ × Doc)) (key : List ℕ) → AllByRecursion P (keys_of es) → P key → AllByRecursion P (keys_of es ++ key ∷ [])
+all_with P [] key all one = (one, tt)
+all_with P (x ∷ es) key all one = (all.0, all_with P es key all.1 one)
+
+-- stands behind all
+pub behind_last : (es : List (List ℕ × Doc)) (i : ℕ) (e : List ℕ × Doc) (key : List ℕ) → InOrder (keys_of es) → slice_get es i ≡ Some e → length es ≤ i + 1 → slice_cmp nat_cmp e.0 key ≡ Less
+    → InOrder (keys_of es ++ key ∷ [])
+unfolding IsStrictlySortedBy
+behind_last [] i e key order is last less = (tt, tt)
+behind_last (x ∷ []) zero e key order is last less = ((subst (λ (r : List ℕ × Doc). slice_cmp nat_cmp r.0 key ≡ Less) (sym (same_Some x e is)) less, tt), (tt, tt))
+behind_last (x ∷ y ∷ es) zero e key order is last less = absurd (omega (arith, last))
+behind_last (x ∷ es) (suc i) e key order is last less =
+    (all_with _ es key order.0 (nat_list_cmp_total.trans x.0 e.0 key (entry_at _ es i e is order.0) less), behind_last es i e key order.1 is (omega (arith, last)) less)
+
+-- the same of fields, as the slice has them
+pub field_behind : (fs : List Field) (es : List (List ℕ × Doc)) (f : Field) (key : List ℕ) (less : Bool) → map pair_of fs ≡ es → InOrder (keys_of es) → Some f ≡ slice_get fs (length fs - 1)
+    → less ≡ is_lt (slice_cmp nat_cmp f.key key) → less ≡ true → InOrder (keys_of es ++ key ∷ [])
+field_behind fs es f key less are order last is holds =
+    let at : slice_get es (length fs - 1) ≡ Some (pair_of f) =
+    ap (λ (xs : List (List ℕ × Doc)). slice_get xs (length fs - 1)) (sym are) ∙ slice_get-map pair_of fs (length fs - 1) ∙ ap (option_map pair_of) (sym last) in
+    let many : length es ≡ length fs = ap length (sym are) ∙ length-map fs pair_of in
+    behind_last es (length fs - 1) (pair_of f) key order at (omega (arith, many)) (lt_less _ (sym is ∙ holds))
+  where
+    lt_less : (o : Ordering) → is_lt o ≡ true → o ≡ Less
+    lt_less Less holds = refl
+    lt_less Equal holds = cc
+    lt_less Greater holds = cc
+
+-- where there is no last field, any key
+pub first_behind : (fs : List Field) (es : List (List ℕ × Doc)) (key : List ℕ) → map pair_of fs ≡ es → None ≡ slice_get fs (length fs - 1) → InOrder (keys_of es ++ key ∷ [])
+unfolding IsStrictlySortedBy
+first_behind fs [] key are none = (tt, tt)
+first_behind [] (e ∷ es) key are none = cc
+first_behind (f ∷ fs) (e ∷ es) key are none =
+    let within : length (f ∷ fs) - 1 < length (f ∷ fs) = omega arith in
+    let some = slice_get-get_or (f ∷ fs) (length (f ∷ fs) - 1) f within in
+    absurd (none-some _ (none ∙ some))

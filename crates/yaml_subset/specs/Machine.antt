@@ -6,6 +6,7 @@ use Rattle.yaml_subset.specs.declared.mark.Mark.{Mark}
 use Rattle.yaml_subset.specs.declared.mark.Mark.TheVariants.{Dash, Key, Value, Bare}
 use Rattle.yaml_subset.specs.declared.blocks.Frame.{Frame}
 use Rattle.yaml_subset.specs.declared.blocks.Frame.TheVariants.{InList, InMap}
+use Rattle.yaml_subset.specs.declared.blocks.OpenMap.{OpenMap}
 use Rattle.yaml_subset.specs.declared.blocks.Blocks.{Blocks}
 use Rattle.yaml_subset.specs.declared.blocks.Blocks.TheVariants.{Start, Alone, Within}
 
@@ -25,10 +26,14 @@ abbrev pub room_of : Frame → ℕ
 room_of (InList f) = f.room
 room_of (InMap f) = f.room
 
+-- the map, with this document at the key whose value was due
+abbrev pub filled_map : Doc → OpenMap → OpenMap
+filled_map d f = record { room = f.room; column = f.column; pairs = with_pair f.key d f.pairs; key = [] }
+
 -- the block, with this document as the node that was due
 abbrev pub fill : Doc → Frame → Frame
 fill d (InList f) = an_open_list f.room f.column (f.trees ++ d ∷ [])
-fill d (InMap f) = an_open_map f.room f.column (with_pair f.key d f.pairs) []
+fill d (InMap f) = InMap (filled_map d f)
 
 -- the block, with null where a node is due
 abbrev pub settle : Bool → Frame → Frame

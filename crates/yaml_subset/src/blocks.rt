@@ -1,9 +1,12 @@
 //! Blocks that are being read: the open lists and maps, and how a mark changes them.
 ghost use Rattle.doc_tree.specs.Doc.{depth};
 ghost use Rattle.doc_tree.specs.Part.{with_pair};
-ghost use Rattle.std.specs.Prelude.{◌≡◌, [], Some, IfOk};
-ghost use Rattle.yaml_subset.specs.Machine.{an_open_list, an_open_map, begin, close_all, closes, fill, finish, frame_doc, inside, land, next_key, opens_list, opens_map, place, room_of, settle, settled_pairs, step, wants};
+ghost use Rattle.std.specs.Bool.{then_some};
+ghost use Rattle.std.specs.Prelude.{◌≡◌, ◌∷◌, [], List, false, true, IfOk, OnOk};
+ghost use Rattle.yaml_subset.specs.Machine.{an_open_list, an_open_map, begin, close_all, closes, fill, filled_map, finish, frame_doc, inside, land, next_key, opens_list, opens_map, place, room_of, settle, settled_pairs, step, wants};
 ghost use Rattle.yaml_subset.specs.declared.mark.Mark.TheVariants as mark;
+ghost use Rattle.yaml_subset.specs.declared.blocks.Blocks.TheVariants as blocks_of;
+ghost use Rattle.yaml_subset.specs.declared.blocks.Frame.{Frame};
 ghost use Rattle.yaml_subset.specs.declared.blocks.Frame.TheVariants as frame_of;
 
 use crate::document::Document;
@@ -12,6 +15,7 @@ use crate::pairs::Pairs;
 use crate::stack::Stack;
 use doc_tree::{NoMemory, Text, Trees};
 use std::alloc::Global;
+use std::mem::replace;
 
 // How deep lists and maps may nest.
 const DEPTH: u8 = 100;
@@ -98,30 +102,24 @@ fn room_of(frame: &Frame) -> u8
     }
 }
 
-fn fill(alloc: Global, document: Document, frame: Frame) -> Result<Frame, NoMemory>
-    ensures { IfOk result (λ f. f ≡ fill document frame) }
+fn fill(alloc: Global, document: Document, frame: &mut Frame) -> Result<(), NoMemory>
+    ensures { OnOk result (frame.new ≡ fill document frame.old) }
 {
     match frame {
         Frame::InList(list) => {
-            let OpenList {
-                room,
-                column,
-                mut trees,
-            } = list;
-            trees.push(document.into_tree())?;
-            Ok(open_list(room, column, trees))
+            list.trees.push(document.into_tree())?;
+            Ok(())
         }
-        Frame::InMap(map) => {
-            let OpenMap {
-                room,
-                column,
-                pairs,
-                key,
-            } = map;
-            let pairs = pairs.with(alloc, key, document)?;
-            Ok(open_map(room, column, pairs, no_key(alloc)))
-        }
+        Frame::InMap(map) => fill_map(alloc, document, map),
     }
+}
+
+fn fill_map(alloc: Global, document: Document, map: &mut OpenMap) -> Result<(), NoMemory>
+    ensures { OnOk result (map.new ≡ filled_map document map.old) }
+{
+    let key = replace(&mut map.key, no_key(alloc));
+    map.pairs.put(alloc, key, document)?;
+    Ok(())
 }
 
 fn no_key(alloc: Global) -> Text
@@ -130,13 +128,13 @@ fn no_key(alloc: Global) -> Text
     Text::of(String::new(alloc))
 }
 
-fn settle(alloc: Global, due: bool, frame: Frame) -> Result<Frame, NoMemory>
-    ensures { IfOk result (λ f. f ≡ settle due frame) }
+fn settle(alloc: Global, due: bool, frame: &mut Frame) -> Result<(), NoMemory>
+    ensures { OnOk result (frame.new ≡ settle due frame.old) }
 {
     if due {
         fill(alloc, Document::null(), frame)
     } else {
-        Ok(frame)
+        Ok(())
     }
 }
 
@@ -168,184 +166,142 @@ fn closes(mark: &Mark, frame: &Frame) -> bool
     }
 }
 
-fn opens_list(
-    alloc: Global,
-    column: usize,
-    due: bool,
-    frame: Frame,
-    below: Stack<Frame>,
-) -> Result<Option<Blocks>, NoMemory>
-    ensures { IfOk result (λ next. next ≡ opens_list column due frame below) }
+fn opens_list(alloc: Global, column: usize, within: &mut Opened) -> Result<bool, NoMemory>
+    ensures { IfOk result (λ goes. then_some goes (blocks_of.Within within.new) ≡ opens_list column within.old.due within.old.frame within.old.below) }
 {
-    let room = room_of(&frame);
-    if !due || room == 0 {
-        return Ok(None);
+    let room = room_of(&within.frame);
+    if !within.due || room == 0 {
+        return Ok(false);
     }
-    let below = below.with(frame)?;
-    Ok(Some(inside(true, open_list(room - 1, column, Trees::new(alloc)), below)))
+    nest(open_list(room - 1, column, Trees::new(alloc)), within)?;
+    Ok(true)
 }
 
-fn opens_map(
-    alloc: Global,
-    column: usize,
-    key: Text,
-    due: bool,
-    frame: Frame,
-    below: Stack<Frame>,
-) -> Result<Option<Blocks>, NoMemory>
-    ensures { IfOk result (λ next. next ≡ opens_map column key due frame below) }
+fn opens_map(alloc: Global, column: usize, key: Text, within: &mut Opened) -> Result<bool, NoMemory>
+    ensures { IfOk result (λ goes. then_some goes (blocks_of.Within within.new) ≡ opens_map column key within.old.due within.old.frame within.old.below) }
 {
-    let room = room_of(&frame);
-    if !due || room == 0 {
-        return Ok(None);
+    let room = room_of(&within.frame);
+    if !within.due || room == 0 {
+        return Ok(false);
     }
-    let below = below.with(frame)?;
-    Ok(Some(inside(
-        true,
-        open_map(room - 1, column, Pairs::new(alloc), key),
-        below,
-    )))
+    nest(open_map(room - 1, column, Pairs::new(alloc), key), within)?;
+    Ok(true)
 }
 
-fn settled_pairs(alloc: Global, due: bool, key: Text, pairs: Pairs) -> Result<Pairs, NoMemory>
-    ensures { IfOk result (λ ps. ps ≡ settled_pairs due key pairs) }
+// A block more, in the innermost.
+fn nest(frame: Frame, within: &mut Opened) -> Result<(), NoMemory>
+    ensures due { OnOk result (within.new.due ≡ within.old.due) }
+    ensures frame { OnOk result (within.new.frame ≡ frame) }
+    ensures below { OnOk result (within.new.below ≡ within.old.frame ∷ within.old.below) }
+{
+    let outer = replace(&mut within.frame, frame);
+    within.below.push(outer)?;
+    Ok(())
+}
+
+fn settle_map(alloc: Global, due: bool, map: &mut OpenMap) -> Result<(), NoMemory>
+    ensures room { OnOk result (map.new.room ≡ map.old.room) }
+    ensures column { OnOk result (map.new.column ≡ map.old.column) }
+    ensures pairs { OnOk result (map.new.pairs ≡ settled_pairs due map.old.key map.old.pairs) }
 {
     if due {
-        pairs.with(alloc, key, Document::null())
+        fill_map(alloc, Document::null(), map)
     } else {
-        Ok(pairs)
-    }
-}
-
-fn next_key(key: Text, room: u8, column: usize, pairs: Pairs, below: Stack<Frame>) -> Option<Blocks>
-    ensures { result ≡ next_key key room column pairs below }
-{
-    if pairs.has(&key) {
-        None
-    } else {
-        Some(inside(true, open_map(room, column, pairs, key), below))
-    }
-}
-
-fn place_dash(
-    alloc: Global,
-    column: usize,
-    due: bool,
-    frame: Frame,
-    below: Stack<Frame>,
-) -> Result<Option<Blocks>, NoMemory>
-    ensures { IfOk result (λ next. next ≡ place (mark.Dash column) due frame below) }
-{
-    match frame {
-        Frame::InList(list) => {
-            if list.column == column {
-                let frame = settle(alloc, due, Frame::InList(list))?;
-                Ok(Some(inside(true, frame, below)))
-            } else {
-                opens_list(alloc, column, due, Frame::InList(list), below)
-            }
-        }
-        Frame::InMap(map) => opens_list(alloc, column, due, Frame::InMap(map), below),
-    }
-}
-
-fn place_key(
-    alloc: Global,
-    column: usize,
-    key: Text,
-    due: bool,
-    frame: Frame,
-    below: Stack<Frame>,
-) -> Result<Option<Blocks>, NoMemory>
-    ensures { IfOk result (λ next. next ≡ place (mark.Key column key) due frame below) }
-{
-    match frame {
-        Frame::InList(list) => opens_map(alloc, column, key, due, Frame::InList(list), below),
-        Frame::InMap(map) => {
-            if map.column == column {
-                key_in_map(alloc, key, due, map, below)
-            } else {
-                opens_map(alloc, column, key, due, Frame::InMap(map), below)
-            }
-        }
+        Ok(())
     }
 }
 
 // One key more of a map.
-fn key_in_map(
-    alloc: Global,
-    key: Text,
-    due: bool,
-    map: OpenMap,
-    below: Stack<Frame>,
-) -> Result<Option<Blocks>, NoMemory>
-    ensures { IfOk result (λ next. next ≡ next_key key map.room map.column (settled_pairs due map.key map.pairs) below) }
+fn next_key(alloc: Global, key: Text, due: bool, map: &mut OpenMap) -> Result<bool, NoMemory>
+    ensures { IfOk result (λ goes. (below : List Frame) → then_some goes (inside true (frame_of.InMap map.new) below) ≡ next_key key map.old.room map.old.column (settled_pairs due map.old.key map.old.pairs) below) }
 {
-    let OpenMap {
-        room,
-        column,
-        pairs,
-        key: last,
-    } = map;
-    let pairs = settled_pairs(alloc, due, last, pairs)?;
-    Ok(next_key(key, room, column, pairs, below))
-}
-
-fn place_value(
-    alloc: Global,
-    document: Document,
-    due: bool,
-    frame: Frame,
-    below: Stack<Frame>,
-) -> Result<Option<Blocks>, NoMemory>
-    ensures { IfOk result (λ next. next ≡ place (mark.Value document) due frame below) }
-{
-    if !due || document.is_deeper(usize::from(room_of(&frame))) {
-        return Ok(None);
+    settle_map(alloc, due, map)?;
+    if map.pairs.has(&key) {
+        return Ok(false);
     }
-    let frame = fill(alloc, document, frame)?;
-    Ok(Some(inside(false, frame, below)))
+    map.key = key;
+    Ok(true)
 }
 
-fn place(
-    alloc: Global,
-    mark: Mark,
-    due: bool,
-    frame: Frame,
-    below: Stack<Frame>,
-) -> Result<Option<Blocks>, NoMemory>
-    ensures { IfOk result (λ next. next ≡ place mark due frame below) }
+fn place_dash(alloc: Global, column: usize, within: &mut Opened) -> Result<bool, NoMemory>
+    ensures { IfOk result (λ goes. then_some goes (blocks_of.Within within.new) ≡ place (mark.Dash column) within.old.due within.old.frame within.old.below) }
+{
+    match &within.frame {
+        Frame::InList(list) => {
+            if list.column != column {
+                return opens_list(alloc, column, within);
+            }
+            settle(alloc, within.due, &mut within.frame)?;
+            within.due = true;
+            Ok(true)
+        }
+        Frame::InMap(_) => opens_list(alloc, column, within),
+    }
+}
+
+fn place_key(alloc: Global, column: usize, key: Text, within: &mut Opened) -> Result<bool, NoMemory>
+    ensures { IfOk result (λ goes. then_some goes (blocks_of.Within within.new) ≡ place (mark.Key column key) within.old.due within.old.frame within.old.below) }
+{
+    match &mut within.frame {
+        Frame::InList(_) => opens_map(alloc, column, key, within),
+        Frame::InMap(map) => {
+            if map.column != column {
+                return opens_map(alloc, column, key, within);
+            }
+            let goes = next_key(alloc, key, within.due, map)?;
+            within.due = true;
+            Ok(goes)
+        }
+    }
+}
+
+fn place_value(alloc: Global, document: Document, within: &mut Opened) -> Result<bool, NoMemory>
+    ensures { IfOk result (λ goes. then_some goes (blocks_of.Within within.new) ≡ place (mark.Value document) within.old.due within.old.frame within.old.below) }
+{
+    if !within.due || document.is_deeper(usize::from(room_of(&within.frame))) {
+        return Ok(false);
+    }
+    fill(alloc, document, &mut within.frame)?;
+    within.due = false;
+    Ok(true)
+}
+
+fn place(alloc: Global, mark: Mark, within: &mut Opened) -> Result<bool, NoMemory>
+    ensures { IfOk result (λ goes. then_some goes (blocks_of.Within within.new) ≡ place mark within.old.due within.old.frame within.old.below) }
 {
     match mark {
-        Mark::Dash(column) => place_dash(alloc, column, due, frame, below),
-        Mark::Key(column, key) => place_key(alloc, column, key, due, frame, below),
-        Mark::Value(document) => place_value(alloc, document, due, frame, below),
-        Mark::Bare(_) => Ok(None),
+        Mark::Dash(column) => place_dash(alloc, column, within),
+        Mark::Key(column, key) => place_key(alloc, column, key, within),
+        Mark::Value(document) => place_value(alloc, document, within),
+        Mark::Bare(_) => Ok(false),
     }
+}
+
+// The innermost block closes: its document is the node that was due in the block around it.
+fn close(alloc: Global, outer: Frame, within: &mut Opened) -> Result<(), NoMemory>
+    ensures due { OnOk result (within.new.due ≡ false) }
+    ensures frame { OnOk result (within.new.frame ≡ fill (frame_doc (settle within.old.due within.old.frame)) outer) }
+    ensures below { OnOk result (within.new.below ≡ within.old.below) }
+{
+    settle(alloc, within.due, &mut within.frame)?;
+    let inner = replace(&mut within.frame, outer);
+    let document = frame_doc(alloc, inner)?;
+    fill(alloc, document, &mut within.frame)?;
+    within.due = false;
+    Ok(())
 }
 
 // The blocks that a mark lies outside of close, one by one.
-fn land(alloc: Global, mark: Mark, within: Opened) -> Result<Option<Blocks>, NoMemory>
-    ensures { IfOk result (λ next. next ≡ land mark within.due within.frame within.below) }
+fn land(alloc: Global, mark: Mark, within: &mut Opened) -> Result<bool, NoMemory>
+    ensures { IfOk result (λ goes. then_some goes (blocks_of.Within within.new) ≡ land mark within.old.due within.old.frame within.old.below) }
 {
-    let Opened {
-        mut due,
-        mut frame,
-        mut below,
-    } = within;
-    'closing: while closes(&mark, &frame) {
-        match below.innermost() {
-            Some((outer, rest)) => {
-                let settled = settle(alloc, due, frame)?;
-                let document = frame_doc(alloc, settled)?;
-                frame = fill(alloc, document, outer)?;
-                below = rest;
-                due = false;
-            }
-            None => return Ok(None),
+    'closing: while closes(&mark, &within.frame) {
+        match within.below.pop() {
+            Some(outer) => close(alloc, outer, within)?,
+            None => return Ok(false),
         }
     }
-    place(alloc, mark, due, frame, below)
+    place(alloc, mark, within)
 }
 
 fn begin(alloc: Global, mark: Mark) -> Option<Blocks>
@@ -376,13 +332,19 @@ fn alone(document: Document) -> Option<Blocks>
     }
 }
 
-/// One mark more, or `None` exactly where no tree goes on with it.
-pub(crate) fn step(alloc: Global, mark: Mark, blocks: Blocks) -> Result<Option<Blocks>, NoMemory>
-    ensures { IfOk result (λ next. next ≡ step mark blocks) }
+/// One mark more, or false exactly where no tree goes on with it: nothing is known then of what was read.
+pub(crate) fn step(alloc: Global, mark: Mark, blocks: &mut Blocks) -> Result<bool, NoMemory>
+    ensures { IfOk result (λ goes. then_some goes blocks.new ≡ step mark blocks.old) }
 {
     match blocks {
-        Blocks::Start => Ok(begin(alloc, mark)),
-        Blocks::Alone(_) => Ok(None),
+        Blocks::Start => match begin(alloc, mark) {
+            Some(first) => {
+                *blocks = first;
+                Ok(true)
+            }
+            None => Ok(false),
+        },
+        Blocks::Alone(_) => Ok(false),
         Blocks::Within(within) => land(alloc, mark, within),
     }
 }
@@ -403,15 +365,14 @@ fn close_all(alloc: Global, within: Opened) -> Result<Document, NoMemory>
 {
     let Opened {
         due,
-        frame,
+        mut frame,
         mut below,
     } = within;
-    let frame = settle(alloc, due, frame)?;
+    settle(alloc, due, &mut frame)?;
     let mut document = frame_doc(alloc, frame)?;
-    while let Some((outer, rest)) = below.innermost() {
-        let frame = fill(alloc, document, outer)?;
-        document = frame_doc(alloc, frame)?;
-        below = rest;
+    while let Some(mut outer) = below.pop() {
+        fill(alloc, document, &mut outer)?;
+        document = frame_doc(alloc, outer)?;
     }
     Ok(document)
 }

@@ -78,8 +78,8 @@ fn put(alloc: Global, document: Document, bracket: Bracket) -> Result<Bracket, N
             trees.push(document.into_tree())?;
             Ok(Bracket::InList(trees))
         }
-        Bracket::InMap(pairs, key) => {
-            let pairs = pairs.with(alloc, key, document)?;
+        Bracket::InMap(mut pairs, key) => {
+            pairs.put(alloc, key, document)?;
             Ok(Bracket::InMap(pairs, no_key(alloc)))
         }
     }
@@ -112,15 +112,17 @@ fn opens(
     if !takes(want, &bracket) || below.len() >= AROUND {
         return Ok(None);
     }
-    let below = below.with(bracket)?;
+    let mut below = below;
+    below.push(bracket)?;
     Ok(Some(within(Want::More, new, below)))
 }
 
 fn closed(alloc: Global, document: Document, below: Stack<Bracket>) -> Result<Flowing, NoMemory>
     ensures { IfOk result (λ next. next ≡ closed document below) }
 {
-    match below.innermost() {
-        Some((outer, below)) => {
+    let mut below = below;
+    match below.pop() {
+        Some(outer) => {
             let outer = put(alloc, document, outer)?;
             Ok(within(Want::Sign, outer, below))
         }

@@ -4,7 +4,7 @@ ghost use Rattle.doc_tree.specs.Part.{pair_at, with_pair};
 ghost use Rattle.doc_tree.specs.Tree.{pair_of};
 ghost use Rattle.doc_tree.specs.Valid.{InOrder};
 ghost use Rattle.std.specs.Map.{keys_of};
-ghost use Rattle.std.specs.Prelude.{◌≡◌, ◌++◌, ◌∷◌, [], IfOk, OnOk, is_some};
+ghost use Rattle.std.specs.Prelude.{◌≡◌, ◌++◌, ◌∷◌, [], IfOk, IsTrue, None, OnOk, is_some};
 ghost use Rattle.yaml_subset.specs.Pairs.{pairs_held};
 
 use crate::document::Document;
@@ -12,6 +12,7 @@ use doc_tree::{Field, Fields, NoMemory, Text};
 use std::alloc::Global;
 use std::collections::BTreeMap;
 use std::marker::Model;
+use std::mem::replace;
 
 /// How many keys may come in any order before they are held in a map.
 const FEW: usize = 32;
@@ -61,24 +62,16 @@ impl Pairs {
         ensures { result ≡ is_some (pair_at key.now (pairs_of self.now)) }
     {
         match &self.held {
-            Held::Listed(fields) => fields.get(key.as_str()).is_some(),
+            Held::Listed(fields) => !is_behind(key, fields) && fields.get(key.as_str()).is_some(),
             Held::Mapped(map) => is_mapped(map, key),
         }
     }
 
     /// One key more, or another document at a key that is there.
-    pub(crate) fn with(
-        self,
-        alloc: Global,
-        key: Text,
-        document: Document,
-    ) -> Result<Pairs, NoMemory>
-        ensures { IfOk result (λ pairs. pairs ≡ with_pair key document self) }
+    pub fn put(&mut self, alloc: Global, key: Text, document: Document) -> Result<(), NoMemory>
+        ensures { OnOk result (self.new ≡ with_pair key document self.old) }
     {
-        let Pairs { held } = self;
-        Ok(Pairs {
-            held: held_with(alloc, held, key, document)?,
-        })
+        put_held(alloc, key, document, &mut self.held)
     }
 
     /// The fields of a dict, which are moved out.
@@ -99,45 +92,48 @@ fn is_mapped(map: &BTreeMap<Text, Document>, key: &Text) -> bool
     map.contains_key(key)
 }
 
-fn held_with(alloc: Global, held: Held, key: Text, document: Document) -> Result<Held, NoMemory>
-    ensures { IfOk result (λ after. pairs_held after ≡ with_pair key document (pairs_held held)) }
+fn put_held(alloc: Global, key: Text, document: Document, held: &mut Held) -> Result<(), NoMemory>
+    ensures { OnOk result (pairs_held held.new ≡ with_pair key document (pairs_held held.old)) }
 {
     match held {
         Held::Listed(fields) => {
-            if stays_listed(&fields, &key) {
-                listed_with(fields, key, document)
-            } else {
-                mapped_with(map_from(alloc, fields)?, key, document)
+            if is_behind(&key, fields) {
+                return put_last(key, document, fields);
             }
+            if fields.len() < FEW {
+                fields.put(key, document.into_tree())?;
+                return Ok(());
+            }
+            let fields = replace(fields, Fields::new(alloc));
+            let mut map = map_from(alloc, fields)?;
+            map.insert(key, document)?;
+            *held = Held::Mapped(map);
+            Ok(())
         }
-        Held::Mapped(map) => mapped_with(map, key, document),
+        Held::Mapped(map) => {
+            map.insert(key, document)?;
+            Ok(())
+        }
     }
 }
 
-/// Whether a key goes into the list: there are few, or it stands behind the last.
-fn stays_listed(fields: &Fields, key: &Text) -> bool {
+/// Whether a key stands behind all that are there, in their order.
+fn is_behind(key: &Text, fields: &Fields) -> bool
+    ensures order { IsTrue result → InOrder (keys_of fields.now ++ key.now ∷ []) }
+    ensures free { IsTrue result → pair_at key.now (pairs_of fields.now) ≡ None }
+{
     match fields.as_slice().last() {
-        Some(last) => fields.len() < FEW || last.key < *key,
+        Some(last) => last.key < *key,
         None => true,
     }
 }
 
-fn listed_with(mut fields: Fields, key: Text, document: Document) -> Result<Held, NoMemory>
-    ensures { IfOk result (λ after. pairs_held after ≡ with_pair key document fields) }
+fn put_last(key: Text, document: Document, fields: &mut Fields) -> Result<(), NoMemory>
+    requires { InOrder (keys_of fields.old ++ key ∷ []) }
+    ensures { OnOk result (fields.new ≡ with_pair key document fields.old) }
 {
-    fields.put(key, document.into_tree())?;
-    Ok(Held::Listed(fields))
-}
-
-fn mapped_with(
-    mut map: BTreeMap<Text, Document>,
-    key: Text,
-    document: Document,
-) -> Result<Held, NoMemory>
-    ensures { IfOk result (λ after. pairs_held after ≡ with_pair key document map.entries) }
-{
-    map.insert(key, document)?;
-    Ok(Held::Mapped(map))
+    fields.push(key, document.into_tree())?;
+    Ok(())
 }
 
 fn map_from(alloc: Global, fields: Fields) -> Result<BTreeMap<Text, Document>, NoMemory>

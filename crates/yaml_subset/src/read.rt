@@ -37,12 +37,9 @@ pub fn read_yaml(alloc: Global, text: &Text) -> Result<Tree, YamlFault>
     for line in text.as_str().lines() {
         let line = line.as_bytes();
         count += 1;
-        match read_step(alloc, line, reader)? {
-            Some(next) => reader = next,
-            None => {
-                let kind = kind_of(alloc, line)?;
-                return Err(YamlFault::Refused { line: count, kind });
-            }
+        if !read_step(alloc, line, &mut reader)? {
+            let kind = kind_of(alloc, line)?;
+            return Err(YamlFault::Refused { line: count, kind });
         }
     }
     match end_of(alloc, reader)? {

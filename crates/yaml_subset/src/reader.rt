@@ -1,4 +1,5 @@
 //! How a text is read line by line.
+ghost use Rattle.std.specs.Bool.{then_some};
 ghost use Rattle.std.specs.Prelude.{◌≡◌, IfOk, IsUtf8, Some, option_and_then};
 ghost use Rattle.yaml_subset.specs.Layout.{a_sign, is_lone, mark_of, marks_of, rest_marks};
 ghost use Rattle.yaml_subset.specs.Machine.{run, step};
@@ -13,6 +14,7 @@ use crate::said::{Rest, Said, read_line};
 use crate::signs::{has_tab, is_marker, is_opening, is_passed};
 use doc_tree::{Listed, NoMemory};
 use std::alloc::Global;
+use std::mem::replace;
 
 /// Where the next line stands.
 #[derive(Drop)]
@@ -50,15 +52,6 @@ pub(crate) fn first_reader() -> Reader
     }
 }
 
-fn outside(first: bool, blocks: Blocks) -> Option<Reader>
-    ensures { result ≡ Some (a_reader (place_of.Outside first) blocks) }
-{
-    Some(Reader {
-        place: Place::Outside(first),
-        blocks,
-    })
-}
-
 fn is_lone(heads: &Listed<Mark>) -> bool
     ensures { result ≡ is_lone heads.now }
 {
@@ -68,17 +61,15 @@ fn is_lone(heads: &Listed<Mark>) -> bool
     }
 }
 
-fn run_heads(alloc: Global, heads: Listed<Mark>, blocks: Blocks) -> Result<Option<Blocks>, NoMemory>
-    ensures { IfOk result (λ next. next ≡ run (Some blocks) heads) }
+fn run_heads(alloc: Global, heads: Listed<Mark>, blocks: &mut Blocks) -> Result<bool, NoMemory>
+    ensures { IfOk result (λ goes. then_some goes blocks.new ≡ run (Some blocks.old) heads) }
 {
-    let mut blocks = blocks;
     for mark in heads.into_vec() {
-        match step(alloc, mark, blocks)? {
-            Some(next) => blocks = next,
-            None => return Ok(None),
+        if !step(alloc, mark, blocks)? {
+            return Ok(false);
         }
     }
-    Ok(Some(blocks))
+    Ok(true)
 }
 
 // What stands behind the dashes and the key of a line.
@@ -87,37 +78,39 @@ fn enter(
     lone: bool,
     above: usize,
     rest: Rest,
-    blocks: Blocks,
-) -> Result<Option<Reader>, NoMemory>
-    ensures { IfOk result (λ next. next ≡ option_and_then (enters lone above rest) (run (Some blocks) (rest_marks lone rest))) }
+    reader: &mut Reader,
+) -> Result<bool, NoMemory>
+    ensures { IfOk result (λ goes. then_some goes reader.new ≡ option_and_then (enters lone above rest) (run (Some reader.old.blocks) (rest_marks lone rest))) }
 {
     match rest {
-        Rest::Nothing => Ok(outside(false, blocks)),
-        Rest::Scalar(document) => match step(alloc, mark_of(lone, document), blocks)? {
-            Some(blocks) => Ok(outside(false, blocks)),
-            None => Ok(None),
-        },
+        Rest::Nothing => {
+            reader.place = Place::Outside(false);
+            Ok(true)
+        }
+        Rest::Scalar(document) => {
+            reader.place = Place::Outside(false);
+            step(alloc, mark_of(lone, document), &mut reader.blocks)
+        }
         Rest::Literal(keeps) => {
-            if !wants(lone, &blocks) {
-                return Ok(None);
+            if !wants(lone, &reader.blocks) {
+                return Ok(false);
             }
             let sign = Sign { lone, keeps, above };
-            Ok(Some(Reader {
-                place: Place::Within(sign, no_lines(alloc)),
-                blocks,
-            }))
+            reader.place = Place::Within(sign, no_lines(alloc));
+            Ok(true)
         }
     }
 }
 
-fn said_step(alloc: Global, said: Said, blocks: Blocks) -> Result<Option<Reader>, NoMemory>
-    ensures { IfOk result (λ next. next ≡ said_step (Some said) blocks) }
+fn said_step(alloc: Global, said: Said, reader: &mut Reader) -> Result<bool, NoMemory>
+    ensures { IfOk result (λ goes. then_some goes reader.new ≡ said_step (Some said) reader.old.blocks) }
 {
     let Said { heads, above, rest } = said;
     let lone = is_lone(&heads);
-    match run_heads(alloc, heads, blocks)? {
-        Some(blocks) => enter(alloc, lone, above, rest, blocks),
-        None => Ok(None),
+    if run_heads(alloc, heads, &mut reader.blocks)? {
+        enter(alloc, lone, above, rest, reader)
+    } else {
+        Ok(false)
     }
 }
 
@@ -125,32 +118,29 @@ fn outside_step(
     alloc: Global,
     first: bool,
     line: &[u8],
-    blocks: Blocks,
-) -> Result<Option<Reader>, NoMemory>
-    ensures { IfOk result (λ next. next ≡ outside_step first line.now blocks) }
+    reader: &mut Reader,
+) -> Result<bool, NoMemory>
+    ensures { IfOk result (λ goes. then_some goes reader.new ≡ outside_step first line.now reader.old.blocks) }
 {
     if is_passed(line) {
-        return Ok(outside(first, blocks));
+        reader.place = Place::Outside(first);
+        return Ok(true);
     }
     if first && is_opening(line) {
-        return Ok(outside(false, blocks));
+        reader.place = Place::Outside(false);
+        return Ok(true);
     }
     if is_marker(line) || has_tab(line) {
-        return Ok(None);
+        return Ok(false);
     }
     match read_line(alloc, line)? {
-        Some(said) => said_step(alloc, said, blocks),
-        None => Ok(None),
+        Some(said) => said_step(alloc, said, reader),
+        None => Ok(false),
     }
 }
 
-fn end_literal(
-    alloc: Global,
-    sign: Sign,
-    held: Held,
-    blocks: Blocks,
-) -> Result<Option<Blocks>, NoMemory>
-    ensures { IfOk result (λ next. next ≡ step (held_mark sign held) blocks) }
+fn end_literal(alloc: Global, sign: Sign, held: Held, blocks: &mut Blocks) -> Result<bool, NoMemory>
+    ensures { IfOk result (λ goes. then_some goes blocks.new ≡ step (held_mark sign held) blocks.old) }
 {
     let text = held_text(alloc, sign.keeps, held)?;
     step(alloc, mark_of(sign.lone, Document::words(text)), blocks)
@@ -161,39 +151,38 @@ fn within_step(
     sign: Sign,
     held: Held,
     line: &[u8],
-    blocks: Blocks,
-) -> Result<Option<Reader>, NoMemory>
+    reader: &mut Reader,
+) -> Result<bool, NoMemory>
     requires { IsUtf8 line.now }
-    ensures { IfOk result (λ next. next ≡ within_step sign held line.now blocks) }
+    ensures { IfOk result (λ goes. then_some goes reader.new ≡ within_step sign held line.now reader.old.blocks) }
 {
     if belongs(sign.above, line) {
         return match add(alloc, line, held)? {
-            Some(held) => Ok(Some(Reader {
-                place: Place::Within(sign, held),
-                blocks,
-            })),
-            None => Ok(None),
+            Some(held) => {
+                reader.place = Place::Within(sign, held);
+                Ok(true)
+            }
+            None => Ok(false),
         };
     }
-    match end_literal(alloc, sign, held, blocks)? {
-        Some(blocks) => outside_step(alloc, false, line, blocks),
-        None => Ok(None),
+    if end_literal(alloc, sign, held, &mut reader.blocks)? {
+        outside_step(alloc, false, line, reader)
+    } else {
+        Ok(false)
     }
 }
 
-/// One line more, or `None` exactly where no text goes on with it.
-pub(crate) fn read_step(
-    alloc: Global,
-    line: &[u8],
-    reader: Reader,
-) -> Result<Option<Reader>, NoMemory>
+/// One line more, or false exactly where no text goes on with it: nothing is known then of what was read.
+pub(crate) fn read_step(alloc: Global, line: &[u8], reader: &mut Reader) -> Result<bool, NoMemory>
     requires { IsUtf8 line.now }
-    ensures { IfOk result (λ next. next ≡ read_step line.now reader) }
+    ensures { IfOk result (λ goes. then_some goes reader.new ≡ read_step line.now reader.old) }
 {
-    let Reader { place, blocks } = reader;
-    match place {
-        Place::Outside(first) => outside_step(alloc, first, line, blocks),
-        Place::Within(sign, held) => within_step(alloc, sign, held, line, blocks),
+    if let Place::Outside(first) = &reader.place {
+        return outside_step(alloc, *first, line, reader);
+    }
+    match replace(&mut reader.place, Place::Outside(false)) {
+        Place::Outside(first) => outside_step(alloc, first, line, reader),
+        Place::Within(sign, held) => within_step(alloc, sign, held, line, reader),
     }
 }
 
@@ -201,12 +190,15 @@ pub(crate) fn read_step(
 pub(crate) fn end_of(alloc: Global, reader: Reader) -> Result<Option<Document>, NoMemory>
     ensures { IfOk result (λ d. d ≡ end_of reader) }
 {
-    let Reader { place, blocks } = reader;
+    let Reader { place, mut blocks } = reader;
     match place {
         Place::Outside(_) => Ok(Some(finish(alloc, blocks)?)),
-        Place::Within(sign, held) => match end_literal(alloc, sign, held, blocks)? {
-            Some(blocks) => Ok(Some(finish(alloc, blocks)?)),
-            None => Ok(None),
-        },
+        Place::Within(sign, held) => {
+            if end_literal(alloc, sign, held, &mut blocks)? {
+                Ok(Some(finish(alloc, blocks)?))
+            } else {
+                Ok(None)
+            }
+        }
     }
 }

@@ -1,5 +1,5 @@
 //! A stack, of which the last that went on is the first that comes off.
-ghost use Rattle.std.specs.Prelude.{◌≡◌, ◌∷◌, [], IfOk, MatchOption, length};
+ghost use Rattle.std.specs.Prelude.{◌≡◌, ◌∷◌, [], MatchOption, OnOk, length};
 
 use doc_tree::NoMemory;
 use std::alloc::Global;
@@ -39,22 +39,17 @@ impl<T> Stack<T> {
 
 impl<T: Drop> Stack<T> {
     /// One item more, which is the innermost.
-    pub(crate) fn with(self, item: T) -> Result<Stack<T>, NoMemory>
-        ensures { IfOk result (λ s. s ≡ item ∷ self) }
+    pub(crate) fn push(&mut self, item: T) -> Result<(), NoMemory>
+        ensures { OnOk result (self.new ≡ item ∷ self.old) }
     {
-        let Stack { mut items } = self;
-        items.push(item)?;
-        Ok(Stack { items })
+        self.items.push(item)?;
+        Ok(())
     }
 
-    /// The innermost item, with those around it.
-    pub(crate) fn innermost(self) -> Option<(T, Stack<T>)>
-        ensures { MatchOption result (self ≡ []) (λ parts. self ≡ parts.0 ∷ parts.1) }
+    /// The innermost item, which is taken off.
+    pub(crate) fn pop(&mut self) -> Option<T>
+        ensures { MatchOption result (self.old ≡ []) (λ item. self.old ≡ item ∷ self.new) }
     {
-        let Stack { mut items } = self;
-        match items.pop() {
-            Some(item) => Some((item, Stack { items })),
-            None => None,
-        }
+        self.items.pop()
     }
 }
