@@ -1,4 +1,5 @@
 pub mod PairsLemmas
+pub mod FallingLemmas
 pub mod MachineLemmas
 pub mod SignsLemmas
 pub mod ScalarLemmas

@@ -1,5 +1,5 @@
 -- The keys of a map that is read, as entries in order.
-use Rattle.std.proofs.Common.{◌≡◌, ◌≤◌, ◌<◌, ◌+◌, ◌-◌, ℕ, zero, suc, List, [], ◌∷◌, ◌++◌, length, map, option_map, slice_get, Bool, cond, Some, None, true, false, Less, Equal, Greater, is_lt, nat_cmp, bytes_eq, is_eq, refl, sym, ap, ◌∙◌, subst, arith}
+use Rattle.std.proofs.Common.{◌≡◌, ◌≤◌, ◌<◌, ◌+◌, ◌-◌, ℕ, zero, suc, List, [], ◌∷◌, ◌++◌, length, get_or, map, option_map, slice_get, Bool, cond, Some, None, true, false, Less, Equal, Greater, is_lt, nat_cmp, bytes_eq, is_eq, refl, sym, ap, ◌∙◌, subst, arith}
 use Rattle.std.proofs.lemmas.Map.Text.{is_eq-slice_cmp}
 use Rattle.std.proofs.lemmas.List.{length-map}
 use Rattle.std.proofs.lemmas.Option.{none-some, same_Some, slice_get-get_or, slice_get-map}
@@ -79,6 +79,11 @@ behind_last (x ∷ y ∷ es) zero e key order is last less = absurd (omega (arit
 behind_last (x ∷ es) (suc i) e key order is last less =
     (all_with _ es key order.0 (nat_list_cmp_total.trans x.0 e.0 key (entry_at _ es i e is order.0) less), behind_last es i e key order.1 is (omega (arith, last)) less)
 
+pub lt_less : (o : Ordering) → is_lt o ≡ true → o ≡ Less
+lt_less Less holds = refl
+lt_less Equal holds = cc
+lt_less Greater holds = cc
+
 -- the same of fields, as the slice has them
 pub field_behind : (fs : List Field) (es : List (List ℕ × Doc)) (f : Field) (key : List ℕ) (less : Bool) → map pair_of fs ≡ es → InOrder (keys_of es) → Some f ≡ slice_get fs (length fs - 1)
     → less ≡ is_lt (slice_cmp nat_cmp f.key key) → less ≡ true → InOrder (keys_of es ++ key ∷ [])
@@ -87,18 +92,13 @@ field_behind fs es f key less are order last is holds =
     ap (λ (xs : List (List ℕ × Doc)). slice_get xs (length fs - 1)) (sym are) ∙ slice_get-map pair_of fs (length fs - 1) ∙ ap (option_map pair_of) (sym last) in
     let many : length es ≡ length fs = ap length (sym are) ∙ length-map fs pair_of in
     behind_last es (length fs - 1) (pair_of f) key order at (omega (arith, many)) (lt_less _ (sym is ∙ holds))
-  where
-    lt_less : (o : Ordering) → is_lt o ≡ true → o ≡ Less
-    lt_less Less holds = refl
-    lt_less Equal holds = cc
-    lt_less Greater holds = cc
+
+pub last_is : {A : Type 0} (x : A) (xs : List A) → slice_get (x ∷ xs) (length (x ∷ xs) - 1) ≡ Some (get_or (x ∷ xs) (length (x ∷ xs) - 1) x)
+last_is x xs = let within : length (x ∷ xs) - 1 < length (x ∷ xs) = omega arith in slice_get-get_or (x ∷ xs) (length (x ∷ xs) - 1) x within
 
 -- where there is no last field, any key
 pub first_behind : (fs : List Field) (es : List (List ℕ × Doc)) (key : List ℕ) → map pair_of fs ≡ es → None ≡ slice_get fs (length fs - 1) → InOrder (keys_of es ++ key ∷ [])
 unfolding IsStrictlySortedBy
 first_behind fs [] key are none = (tt, tt)
 first_behind [] (e ∷ es) key are none = cc
-first_behind (f ∷ fs) (e ∷ es) key are none =
-    let within : length (f ∷ fs) - 1 < length (f ∷ fs) = omega arith in
-    let some = slice_get-get_or (f ∷ fs) (length (f ∷ fs) - 1) f within in
-    absurd (none-some _ (none ∙ some))
+first_behind (f ∷ fs) (e ∷ es) key are none = absurd (none-some _ (none ∙ last_is f fs))

@@ -3,6 +3,7 @@
 
 mod blocks;
 mod document;
+mod falling;
 mod fault;
 mod flow;
 mod laws;

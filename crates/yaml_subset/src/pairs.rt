@@ -8,6 +8,7 @@ ghost use Rattle.std.specs.Prelude.{◌≡◌, ◌++◌, ◌∷◌, [], IfOk, Is
 ghost use Rattle.yaml_subset.specs.Pairs.{pairs_held};
 
 use crate::document::Document;
+use crate::falling::Falling;
 use doc_tree::{Field, Fields, NoMemory, Text};
 use std::alloc::Global;
 use std::collections::BTreeMap;
@@ -22,6 +23,8 @@ const FEW: usize = 32;
 pub(crate) enum Held {
     /// Keys each of which came behind all before it in their order, or few keys.
     Listed(Fields),
+    /// Many keys, of which the last each came below all before it.
+    Falling(Falling),
     /// Keys of which one came before another in their order: it goes in without that all behind it moves.
     Mapped(BTreeMap<Text, Document>),
 }
@@ -63,6 +66,7 @@ impl Pairs {
     {
         match &self.held {
             Held::Listed(fields) => !is_behind(key, fields) && fields.get(key.as_str()).is_some(),
+            Held::Falling(falling) => !falling.is_below(key) && falling.has(key),
             Held::Mapped(map) => is_mapped(map, key),
         }
     }
@@ -81,6 +85,7 @@ impl Pairs {
         let Pairs { held } = self;
         match held {
             Held::Listed(fields) => Ok(fields),
+            Held::Falling(falling) => falling.into_fields(alloc),
             Held::Mapped(map) => fields_from(alloc, map),
         }
     }
@@ -104,10 +109,16 @@ fn put_held(alloc: Global, key: Text, document: Document, held: &mut Held) -> Re
                 fields.put(key, document.into_tree())?;
                 return Ok(());
             }
-            let fields = replace(fields, Fields::new(alloc));
-            let mut map = map_from(alloc, fields)?;
-            map.insert(key, document)?;
-            *held = Held::Mapped(map);
+            let falling = Falling::of(replace(fields, Fields::new(alloc)));
+            *held = put_many(alloc, key, document, falling)?;
+            Ok(())
+        }
+        Held::Falling(falling) => {
+            if falling.is_below(&key) {
+                return falling.put_first(key, document);
+            }
+            let falling = replace(falling, Falling::of(Fields::new(alloc)));
+            *held = put_many(alloc, key, document, falling)?;
             Ok(())
         }
         Held::Mapped(map) => {
@@ -115,6 +126,24 @@ fn put_held(alloc: Global, key: Text, document: Document, held: &mut Held) -> Re
             Ok(())
         }
     }
+}
+
+fn put_many(
+    alloc: Global,
+    key: Text,
+    document: Document,
+    falling: Falling,
+) -> Result<Held, NoMemory>
+    ensures { IfOk result (λ held. pairs_held held ≡ with_pair key document falling) }
+{
+    let mut falling = falling;
+    if falling.is_below(&key) {
+        falling.put_first(key, document)?;
+        return Ok(Held::Falling(falling));
+    }
+    let mut map = map_from(alloc, falling.into_fields(alloc)?)?;
+    map.insert(key, document)?;
+    Ok(Held::Mapped(map))
 }
 
 /// Whether a key stands behind all that are there, in their order.
