@@ -1,4 +1,4 @@
--- Fields of which each key came below all before it.
+-- Fields to which keys are added that are below all others.
 use Rattle.std.proofs.Common.{◌≡◌, ◌<◌, ◌≤◌, ◌+◌, ◌-◌, ℕ, zero, suc, List, [], ◌∷◌, ◌++◌, length, get_or, map, reverse, take, slice_get, Bool, ◌||◌, cond, Option, Some, None, true, false, is_some, Less, is_lt, nat_cmp, bytes_eq, is_eq, refl, sym, ap, ◌∙◌, subst, arith}
 use Rattle.std.proofs.Math.Bool.{or_comm}
 use Rattle.std.proofs.lemmas.List.{map-append, reverse-append}
@@ -43,6 +43,17 @@ field_below fs f key less order last is holds =
     let (rest, same) = first_is fs (length fs - 1) f (sym last) (omega arith) in
     let there = subst (λ (gs : List Field). InOrder (keys_of (map pair_of gs))) same order in
     subst (λ (gs : List Field). InOrder (key ∷ keys_of (map pair_of gs))) (sym same) (below_order key (pair_of f) (map pair_of rest) (lt_less _ (sym is ∙ holds)) there)
+
+first_key : (key k : List ℕ) (ks : List (List ℕ)) → InOrder (key ∷ k ∷ ks) → slice_cmp nat_cmp key k ≡ Less
+unfolding IsStrictlySortedBy
+first_key key k ks order = order.0.0
+
+-- and only such a key
+pub below_field : (fs : List Field) (f : Field) (key : List ℕ) (less : Bool) → Some f ≡ slice_get fs (length fs - 1) → less ≡ is_lt (slice_cmp nat_cmp key f.key)
+    → InOrder (key ∷ keys_of (map pair_of (reverse fs))) → less ≡ true
+below_field fs f key less last is order =
+    let (rest, same) = first_is fs (length fs - 1) f (sym last) (omega arith) in
+    is ∙ ap is_lt (first_key key f.key (keys_of (map pair_of rest)) (subst (λ (gs : List Field). InOrder (key ∷ keys_of (map pair_of gs))) same order))
 
 -- and any key, where there is none
 pub alone_below : (fs : List Field) (key : List ℕ) → None ≡ slice_get fs (length fs - 1) → InOrder (key ∷ keys_of (map pair_of (reverse fs)))

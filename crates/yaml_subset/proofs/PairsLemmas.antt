@@ -84,14 +84,27 @@ lt_less Less holds = refl
 lt_less Equal holds = cc
 lt_less Greater holds = cc
 
+field_at : (fs : List Field) (es : List (List ℕ × Doc)) (f : Field) → map pair_of fs ≡ es → Some f ≡ slice_get fs (length fs - 1) → slice_get es (length fs - 1) ≡ Some (pair_of f)
+field_at fs es f are last =
+    ap (λ (xs : List (List ℕ × Doc)). slice_get xs (length fs - 1)) (sym are) ∙ slice_get-map pair_of fs (length fs - 1) ∙ ap (option_map pair_of) (sym last)
+
 -- the same of fields, as the slice has them
 pub field_behind : (fs : List Field) (es : List (List ℕ × Doc)) (f : Field) (key : List ℕ) (less : Bool) → map pair_of fs ≡ es → InOrder (keys_of es) → Some f ≡ slice_get fs (length fs - 1)
     → less ≡ is_lt (slice_cmp nat_cmp f.key key) → less ≡ true → InOrder (keys_of es ++ key ∷ [])
 field_behind fs es f key less are order last is holds =
-    let at : slice_get es (length fs - 1) ≡ Some (pair_of f) =
-    ap (λ (xs : List (List ℕ × Doc)). slice_get xs (length fs - 1)) (sym are) ∙ slice_get-map pair_of fs (length fs - 1) ∙ ap (option_map pair_of) (sym last) in
     let many : length es ≡ length fs = ap length (sym are) ∙ length-map fs pair_of in
-    behind_last es (length fs - 1) (pair_of f) key order at (omega (arith, many)) (lt_less _ (sym is ∙ holds))
+    behind_last es (length fs - 1) (pair_of f) key order (field_at fs es f are last) (omega (arith, many)) (lt_less _ (sym is ∙ holds))
+
+key_behind : (es : List (List ℕ × Doc)) (i : ℕ) (e : List ℕ × Doc) (key : List ℕ) → slice_get es i ≡ Some e → InOrder (keys_of es ++ key ∷ []) → slice_cmp nat_cmp e.0 key ≡ Less
+unfolding IsStrictlySortedBy
+key_behind [] i e key is order = absurd (none-some e is)
+key_behind (x ∷ es) zero e key is order = subst (λ (r : List ℕ × Doc). slice_cmp nat_cmp r.0 key ≡ Less) (same_Some x e is) (last_of _ es key order.0)
+key_behind (x ∷ es) (suc i) e key is order = key_behind es i e key is order.1
+
+-- and only such a key
+pub behind_field : (fs : List Field) (es : List (List ℕ × Doc)) (f : Field) (key : List ℕ) (less : Bool) → map pair_of fs ≡ es → Some f ≡ slice_get fs (length fs - 1)
+    → less ≡ is_lt (slice_cmp nat_cmp f.key key) → InOrder (keys_of es ++ key ∷ []) → less ≡ true
+behind_field fs es f key less are last is order = is ∙ ap is_lt (key_behind es (length fs - 1) (pair_of f) key (field_at fs es f are last) order)
 
 pub last_is : {A : Type 0} (x : A) (xs : List A) → slice_get (x ∷ xs) (length (x ∷ xs) - 1) ≡ Some (get_or (x ∷ xs) (length (x ∷ xs) - 1) x)
 last_is x xs = let within : length (x ∷ xs) - 1 < length (x ∷ xs) = omega arith in slice_get-get_or (x ∷ xs) (length (x ∷ xs) - 1) x within

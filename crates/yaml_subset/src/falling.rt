@@ -1,18 +1,18 @@
-//! Fields of which each key came below all before it.
+//! Fields to which keys are added that are below all others.
 ghost use Rattle.doc_tree.specs.Doc.{pairs_of};
 ghost use Rattle.doc_tree.specs.Part.{pair_at, with_pair};
 ghost use Rattle.doc_tree.specs.Tree.{pair_of};
 ghost use Rattle.doc_tree.specs.Valid.{InOrder};
 ghost use Rattle.std.specs.Map.{keys_of};
-ghost use Rattle.std.specs.Prelude.{◌≡◌, ◌∷◌, [], IfOk, IsTrue, None, OnOk, is_some, map};
+ghost use Rattle.std.specs.Prelude.{◌≡◌, ◌↔◌, ◌∷◌, [], IfOk, IsTrue, None, OnOk, is_some, map};
 
 use crate::document::Document;
 use doc_tree::{Field, Fields, NoMemory, Text};
 use std::alloc::Global;
 use std::marker::Model;
 
-/// Fields, of which a key below all others costs no move of theirs. Contracts see the list of the keys in their
-/// order, each with its document.
+/// Fields, the least key last, so that a key below all others goes in without that they move. Contracts see the list
+/// of the keys in their order, each with its document.
 #[derive(Drop)]
 pub(crate) struct Falling {
     entries: Vec<Field>,
@@ -46,7 +46,8 @@ impl Falling {
         Falling { entries }
     }
 
-    /// Whether a key is there. It looks at all.
+    /// Whether a key is there. It looks at one after the other, which a map that is read asks once: the key that comes
+    /// then isn't below all others, and goes into another kind of map.
     pub fn has(&self, key: &Text) -> bool
         ensures { result ≡ is_some (pair_at key.now (pairs_of self.now)) }
     {
@@ -55,7 +56,7 @@ impl Falling {
 
     /// Whether a key stands below all that are there.
     pub fn is_below(&self, key: &Text) -> bool
-        ensures order { IsTrue result → InOrder (key.now ∷ keys_of self.now) }
+        ensures order { IsTrue result ↔ InOrder (key.now ∷ keys_of self.now) }
         ensures free { IsTrue result → pair_at key.now (pairs_of self.now) ≡ None }
     {
         match self.entries.as_slice().last() {

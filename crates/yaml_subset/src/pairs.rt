@@ -4,7 +4,7 @@ ghost use Rattle.doc_tree.specs.Part.{pair_at, with_pair};
 ghost use Rattle.doc_tree.specs.Tree.{pair_of};
 ghost use Rattle.doc_tree.specs.Valid.{InOrder};
 ghost use Rattle.std.specs.Map.{keys_of};
-ghost use Rattle.std.specs.Prelude.{◌≡◌, ◌++◌, ◌∷◌, [], IfOk, IsTrue, None, OnOk, is_some};
+ghost use Rattle.std.specs.Prelude.{◌≡◌, ◌↔◌, ◌++◌, ◌∷◌, [], IfOk, IsTrue, None, OnOk, is_some};
 ghost use Rattle.yaml_subset.specs.Pairs.{pairs_held};
 
 use crate::document::Document;
@@ -15,7 +15,7 @@ use std::collections::BTreeMap;
 use std::marker::Model;
 use std::mem::replace;
 
-/// How many keys may come in any order before they are held in a map.
+/// How many keys may come in any order and stay in the list.
 const FEW: usize = 32;
 
 /// In what the keys are held.
@@ -23,7 +23,7 @@ const FEW: usize = 32;
 pub(crate) enum Held {
     /// Keys each of which came behind all before it in their order, or few keys.
     Listed(Fields),
-    /// Many keys, of which the last each came below all before it.
+    /// The keys of a list, and then keys each of which came below all before it.
     Falling(Falling),
     /// Keys of which one came before another in their order: it goes in without that all behind it moves.
     Mapped(BTreeMap<Text, Document>),
@@ -128,6 +128,7 @@ fn put_held(alloc: Global, key: Text, document: Document, held: &mut Held) -> Re
     }
 }
 
+// One key more, where the list is left: below all others, or anywhere.
 fn put_many(
     alloc: Global,
     key: Text,
@@ -146,9 +147,9 @@ fn put_many(
     Ok(Held::Mapped(map))
 }
 
-/// Whether a key stands behind all that are there, in their order.
+// Whether a key stands behind all that are there, in their order.
 fn is_behind(key: &Text, fields: &Fields) -> bool
-    ensures order { IsTrue result → InOrder (keys_of fields.now ++ key.now ∷ []) }
+    ensures order { IsTrue result ↔ InOrder (keys_of fields.now ++ key.now ∷ []) }
     ensures free { IsTrue result → pair_at key.now (pairs_of fields.now) ≡ None }
 {
     match fields.as_slice().last() {
