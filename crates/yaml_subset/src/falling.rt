@@ -46,8 +46,8 @@ impl Falling {
         Falling { entries }
     }
 
-    /// Whether a key is there. It looks at one after the other, which a map that is read asks once: the key that comes
-    /// then isn't below all others, and goes into another kind of map.
+    /// Whether a key is there. It looks at one after the other, which a map that is read asks once at most: a key that
+    /// isn't below all others makes an ordered map of them.
     pub fn has(&self, key: &Text) -> bool
         ensures { result ≡ is_some (pair_at key.now (pairs_of self.now)) }
     {
