@@ -24,7 +24,7 @@ use Rattle.org_core.proofs.ConditionsLemmas.{created_known, put_list_keeps, crea
 use Rattle.org_core.proofs.ReadLemmas.{IsRead, read_body, some_named, text_named}
 use Rattle.org_core.specs.Bodies.{document_in, object_in_body}
 use Rattle.org_core.specs.Conditions.{MeetsConditions}
-use Rattle.org_core.specs.Contexts.{Context}
+use Rattle.org_core.specs.Contexts.{Context, in_state}
 use Rattle.org_core.specs.Keeping.{IsOrderlyGroup, KeepsConditions, LeadsToConditions, Someone}
 use Rattle.org_core.specs.Moves.{IsOrderly, after_moves}
 use Rattle.org_core.specs.Needs.{if_named}
@@ -171,10 +171,6 @@ access_read (route.Entry collection name word) Other body asked is = cc
 
 -- ---- what is done keeps the conditions
 
--- the context of a request
-abbrev asking : List ℕ → Option (List ℕ) → Organisation → Context
-asking org caller o = record { org = org; caller = caller; state = Some o }
-
 not_refused : (refusal : Refusal) (b : Bool) → refuses refusal b ≡ None → b ≡ false
 not_refused refusal true is = cc
 not_refused refusal false is = refl
@@ -191,49 +187,49 @@ entry_keeps k perm entry o (Some list) is meets known =
     put_list_keeps o k (with_entry perm entry list) meets (ap is_some is)
     (with_entry_known o.membership perm entry list (entry_known o.membership entry known) (list_known o k list meets.1.0 is))
 
-access_do : (org : List ℕ) (caller : Option (List ℕ)) (o : Organisation) (asked : AccessOperation) → MeetsConditions (Some o) → if_named (is_actor o.membership) caller ≡ true → WasRead asked
-    → access_rules.lacks (asking org caller o) asked ≡ false → access_rules.own_refusal (asking org caller o) asked ≡ None → LeadsToConditions (Some o) (access_rules.does (asking org caller o) asked)
-access_do org caller o operation.ListGroups meets known read found free = meets
-access_do org caller o (operation.CreateGroup name) meets known read found free = create_group_keeps o name _ meets (created_known container.Groups caller org o meets.1.0 known) read
-access_do org caller o (operation.ShowGroup name) meets known read found free = meets
-access_do org caller o (operation.ReplaceGroup name group) meets known read found free =
+access_do : (context : Context) (o : Organisation) (asked : AccessOperation) → MeetsConditions (Some o) → if_named (is_actor o.membership) context.caller ≡ true → WasRead asked
+    → access_rules.lacks (in_state (Some o) context) asked ≡ false → access_rules.own_refusal (in_state (Some o) context) asked ≡ None → LeadsToConditions (Some o) (access_rules.does (in_state (Some o) context) asked)
+access_do context o operation.ListGroups meets known read found free = meets
+access_do context o (operation.CreateGroup name) meets known read found free = create_group_keeps o name _ meets (created_known container.Groups context o meets.1.0 known) read
+access_do context o (operation.ShowGroup name) meets known read found free = meets
+access_do context o (operation.ReplaceGroup name group) meets known read found free =
     replace_group_keeps o name _ meets (group_there (is_name name) (has_name o.membership member.Group name) found) (λ kind q listed. sent_known group o.membership kind q free listed)
-access_do org caller o (operation.RemoveGroup name) meets known read found free = remove_group_keeps o name meets (not_refused NotAllowed (is_starting_group name) free)
-access_do org caller o operation.ListUsers meets known read found free = meets
-access_do org caller o (operation.CreateUser name) meets known read found free = create_user_keeps o (codes "users") name meets (not_refused AlreadyExists (is_actor o.membership name) free) read
-access_do org caller o (operation.ShowUser name) meets known read found free = meets
-access_do org caller o (operation.RemoveUser name) meets known read found free = remove_user_keeps o name meets
-access_do org caller o operation.ListContainers meets known read found free = meets
-access_do org caller o (operation.ShowContainer name) meets known read found free = meets
-access_do org caller o (operation.ShowList k) meets known read found free = meets
-access_do org caller o (operation.ReplaceEntry k perm entry) meets known read found free = entry_keeps k perm entry o (finite.get o.lists k) refl meets free
+access_do context o (operation.RemoveGroup name) meets known read found free = remove_group_keeps o name meets (not_refused NotAllowed (is_starting_group name) free)
+access_do context o operation.ListUsers meets known read found free = meets
+access_do context o (operation.CreateUser name) meets known read found free = create_user_keeps o (codes "users") name meets (not_refused AlreadyExists (is_actor o.membership name) free) read
+access_do context o (operation.ShowUser name) meets known read found free = meets
+access_do context o (operation.RemoveUser name) meets known read found free = remove_user_keeps o name meets
+access_do context o operation.ListContainers meets known read found free = meets
+access_do context o (operation.ShowContainer name) meets known read found free = meets
+access_do context o (operation.ShowList k) meets known read found free = meets
+access_do context o (operation.ReplaceEntry k perm entry) meets known read found free = entry_keeps k perm entry o (finite.get o.lists k) refl meets free
 
 entry_undone : (k : Key) (perm : Perm) (entry : Entry) (found : Option Acl) → MeetsConditions (after_moves (entry_moves k perm entry found) None)
 entry_undone k perm entry None = tt
 entry_undone k perm entry (Some list) = tt
 
 -- nothing is done to an organisation that isn't there
-access_undone : (org : List ℕ) (caller : Option (List ℕ)) (asked : AccessOperation) → LeadsToConditions None (access_rules.does (record { org = org; caller = caller; state = None }) asked)
-access_undone org caller operation.ListGroups = tt
-access_undone org caller (operation.CreateGroup name) = tt
-access_undone org caller (operation.ShowGroup name) = tt
-access_undone org caller (operation.ReplaceGroup name group) = tt
-access_undone org caller (operation.RemoveGroup name) = tt
-access_undone org caller operation.ListUsers = tt
-access_undone org caller (operation.CreateUser name) = tt
-access_undone org caller (operation.ShowUser name) = tt
-access_undone org caller (operation.RemoveUser name) = tt
-access_undone org caller operation.ListContainers = tt
-access_undone org caller (operation.ShowContainer name) = tt
-access_undone org caller (operation.ShowList k) = tt
-access_undone org caller (operation.ReplaceEntry k perm entry) = entry_undone k perm entry (list_in None k)
+access_undone : (context : Context) (asked : AccessOperation) → LeadsToConditions None (access_rules.does (in_state None context) asked)
+access_undone context operation.ListGroups = tt
+access_undone context (operation.CreateGroup name) = tt
+access_undone context (operation.ShowGroup name) = tt
+access_undone context (operation.ReplaceGroup name group) = tt
+access_undone context (operation.RemoveGroup name) = tt
+access_undone context operation.ListUsers = tt
+access_undone context (operation.CreateUser name) = tt
+access_undone context (operation.ShowUser name) = tt
+access_undone context (operation.RemoveUser name) = tt
+access_undone context operation.ListContainers = tt
+access_undone context (operation.ShowContainer name) = tt
+access_undone context (operation.ShowList k) = tt
+access_undone context (operation.ReplaceEntry k perm entry) = entry_undone k perm entry (list_in None k)
 
-access_in : (org : List ℕ) (caller : Option (List ℕ)) (state : State) (asked : AccessOperation) → MeetsConditions state → if_named (is_actor (membership_of state)) caller ≡ true → WasRead asked
-    → access_rules.lacks (record { org = org; caller = caller; state = state }) asked ≡ false → access_rules.own_refusal (record { org = org; caller = caller; state = state }) asked ≡ None
-    → LeadsToConditions state (access_rules.does (record { org = org; caller = caller; state = state }) asked)
-access_in org caller None asked meets known read found free = access_undone org caller asked
-access_in org caller (Some o) asked meets known read found free = access_do org caller o asked meets known read found free
+access_in : (context : Context) (state : State) (asked : AccessOperation) → MeetsConditions state → if_named (is_actor (membership_of state)) context.caller ≡ true → WasRead asked
+    → access_rules.lacks (in_state state context) asked ≡ false → access_rules.own_refusal (in_state state context) asked ≡ None
+    → LeadsToConditions state (access_rules.does (in_state state context) asked)
+access_in context None asked meets known read found free = access_undone context asked
+access_in context (Some o) asked meets known read found free = access_do context o asked meets known read found free
 
 pub access_keep : KeepsConditions Someone access_rules
 access_keep context r request asked meets known is found free =
-    access_in context.org context.caller context.state asked meets known (access_read r request.verb request.body asked is) found free
+    access_in context context.state asked meets known (access_read r request.verb request.body asked is) found free

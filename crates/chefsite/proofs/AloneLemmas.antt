@@ -1,7 +1,7 @@
 -- Replies that are the small machine's have its bytes.
-use Rattle.std.proofs.Common.{◌≡◌, List, [], ◌∷◌, ◌++◌, None, map, sym, ap, refl, ◌∙◌}
+use Rattle.std.proofs.Common.{◌≡◌, List, [], ◌∷◌, ◌++◌, map, sym, ap, refl, ◌∙◌}
 use Rattle.std.specs.List.{flat_map}
-use Rattle.org_core.specs.States.{State}
+use Rattle.org_core.specs.FullStates.{FullState, none}
 use Rattle.org_machine.specs.Alone.{Exchange, Alone, RunsAlone, asked_in, own, nobody, replies_alone}
 use Rattle.org_machine.proofs.PermittingLemmas.{all_permitted}
 use Rattle.http_wire.specs.Message.{Message}
@@ -15,7 +15,7 @@ texts-map [] = refl
 texts-map (e ∷ es) = ap (λ xs. reply_text e.reply ++ xs) (texts-map es)
 
 -- the texts of the small machine's replies
-texts_alone : (opened : State) (es : List Exchange) → RunsAlone opened es
+texts_alone : (opened : FullState) (es : List Exchange) → RunsAlone opened es
     → reply_texts es ≡ flat_map reply_text (replies_alone opened (map asked_in es))
 texts_alone opened es runs = texts-map es ∙ ap (flat_map reply_text) runs.replies
 
@@ -24,10 +24,10 @@ pub answered : (ms : List Message) (es : List Exchange) → map (λ e. e.request
 answered ms es requests alone = record {
   requests = requests;
   alone = alone;
-  permitted = λ name. all_permitted None (own name es) (alone.each name);
-  bytes = λ name. texts_alone None (own name es) (alone.each name);
+  permitted = λ name. all_permitted none (own name es) (alone.each name);
+  bytes = λ name. texts_alone none (own name es) (alone.each name);
   worlds = λ name others there same.
-      texts_alone None (own name others) (there.each name)
+      texts_alone none (own name others) (there.each name)
       ∙ ap bytes_alone same
-      ∙ sym (texts_alone None (own name es) (alone.each name));
+      ∙ sym (texts_alone none (own name es) (alone.each name));
 }

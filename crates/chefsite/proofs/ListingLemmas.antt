@@ -9,6 +9,7 @@ use Rattle.std.specs.Cmp.Lexicographic.{slice_cmp, bytes_decides}
 use Rattle.std.specs.Map.{keys_of, lookup}
 use Rattle.doc_tree.proofs.Maps.{eq_by_cmp-text, bytes_eq-symm}
 use Rattle.org_core.specs.declared.replies.Reply.{Reply}
+use Rattle.org_core.specs.FullStates.{none}
 use Rattle.org_core.specs.States.{Kept, state_in, name_cmp}
 use Rattle.org_core.specs.declared.requests.Request.{Request}
 use Rattle.org_core.specs.Refusals.{out_of_memory}
@@ -91,7 +92,7 @@ has-shard shards number shard name before now there had added =
     added
     ∙ ap (λ b. b || adds shard number (length shards) name) had
     ∙ one_more (nat_lt place number) (place == number) (is_there (site_states shards) name) (is_there (states_in shard) name)
-    (λ same. ap (λ o. is_some (option_map_or (λ s. states_in s name) o None)) (sym there ∙ ap (slice_get shards) (sym (eqb→eq place number (subst T (sym same) tt)))))
+    (λ same. ap (λ o. is_some (option_map_or (λ s. states_in s name) o none).state) (sym there ∙ ap (slice_get shards) (sym (eqb→eq place number (subst T (sym same) tt)))))
     ∙ ap (λ b. b && is_there (site_states shards) name) (sym (up_to place))
   where
     one_more : (below here all own : Bool) → (here ≡ true → own ≡ all) → ((below && all) || (here && own)) ≡ ((below || here) && all)

@@ -1,5 +1,5 @@
 -- What a change of one organisation does to the states that a shard keeps.
-use Rattle.std.proofs.Common.{◌≡◌, ◌≢◌, ℕ, zero, suc, ◌<◌, inl, inr, ◌⊎◌, Bool, true, false, cond, List, [], ◌∷◌, length, set, get_or, Option, Some, None, Result, Ok, Err, IsOk, OnOk, sym, ap, subst, refl, ◌∙◌, arith, length-set}
+use Rattle.std.proofs.Common.{is_some, ◌≡◌, ◌≢◌, ℕ, zero, suc, ◌<◌, inl, inr, ◌⊎◌, Bool, true, false, cond, List, [], ◌∷◌, length, set, get_or, Option, Some, None, Result, Ok, Err, IsOk, OnOk, sym, ap, subst, refl, ◌∙◌, arith, length-set}
 use Rattle.std.specs.Bool.{then_some}
 use Rattle.std.specs.List.{slice_get}
 use Rattle.std.specs.Option.{option_map_or, ForSome}
@@ -14,141 +14,158 @@ use Rattle.org_core.specs.declared.requests.Request.{Request}
 use Rattle.org_core.specs.Requests.{org_of, has_name}
 use Rattle.org_core.specs.declared.moves.Move.{Move}
 use Rattle.org_core.specs.Moves.{within, after_moves}
+use Rattle.org_core.specs.FullStates.{FullState, none}
 use Rattle.org_core.specs.States.{Organisation, State, Kept, state_in}
+use Rattle.sandboxes.specs.Files.{Kept as Parts, KeptByName, holding_of, OthersStay}
+use Rattle.sandboxes.specs.Sandboxes.{Holding, nothing}
 use Rattle.org_machine.specs.Steps.{step}
 use Rattle.org_machine.specs.Marks.{Mark, served, short, down, mark_of, after}
 use Rattle.org_machine.specs.Serving.{state_then}
-use Rattle.chefsite.specs.Organisations.{KeptOrganisations, kept_at, state_at}
+use Rattle.chefsite.specs.Organisations.{KeptOrganisations, kept_at, state_at, full_of, full_at, kept_if_there}
+
+-- one entry alike is the other
+pub some_is : {X : Type 0} (x y : X) → Some x ≡ Some y → x ≡ y
+some_is x y same = cc
 
 -- what a request of this organisation does to the state under a name
-pub state_then-known : (org name : List ℕ) (request : Request) (reply : Reply) (state : State) → org_of request ≡ Some org
+pub state_then-known : (org name : List ℕ) (request : Request) (reply : Reply) (state : FullState) → org_of request ≡ Some org
     → state_then name request reply state ≡ cond (bytes_eq org name) (after (mark_of reply) request state) state
 state_then-known org name request reply state is_org =
     ap (λ b. cond b (after (mark_of reply) request state) state) (ap (has_name name) is_org ∙ nat_list_eq_equiv.symm name org)
 
+other_name : (x y : List ℕ) → bytes_eq x y ≡ false → y ≡ x → ⊥
+other_name x y apart same = cc (sym ((bytes_decides x y).1 (sym same)) ∙ apart)
+
+-- the files under a name: those of the organisation, or as before
+files_own : (files : KeptByName) (org name : List ℕ) → bytes_eq org name ≡ true → holding_of files name ≡ holding_of files org
+files_own files org name same = ap (holding_of files) (sym ((bytes_decides org name).0 same))
+
+files_other : (before now : KeptByName) (org name : List ℕ) → OthersStay org before now → bytes_eq org name ≡ false → holding_of now name ≡ holding_of before name
+files_other before now org name stay other = ap (λ (kept : Parts). kept.holding) (stay name (other_name org name other))
+
 -- under one name: its own organisation is as the request leaves it, any other as before
-written_under : (own : Bool) (before now : Option Kept) (new : Kept) (state : State) (request : Request) (reply : Reply)
-    → now ≡ cond own (Some new) before
-    → (own ≡ true → state_at before ≡ state)
-    → state_in new ≡ after (mark_of reply) request state
-    → state_at now ≡ cond own (after (mark_of reply) request (state_at before)) (state_at before)
-written_under true before now new state request reply put had step =
-    ap state_at put ∙ step ∙ ap (after (mark_of reply) request) (sym (had refl))
-written_under false before now new state request reply put had step = ap state_at put
-
--- what is kept under the name of an organisation is replaced
-pub states-written : (before now : KeptOrganisations) (org : List ℕ) (new : Kept) (state : State) (request : Request) (reply : Reply)
-    → ((name : List ℕ) → kept_at now name ≡ cond (bytes_eq org name) (Some new) (kept_at before name))
-    → state_at (kept_at before org) ≡ state
-    → org_of request ≡ Some org
-    → state_in new ≡ after (mark_of reply) request state
-    → (name : List ℕ) → state_at (kept_at now name) ≡ state_then name request reply (state_at (kept_at before name))
-states-written before now org new state request reply put had is_org step name =
-    written_under (bytes_eq org name) (kept_at before name) (kept_at now name) new state request reply (put name)
-    (λ same. ap (λ n. state_at (kept_at before n)) (sym ((bytes_decides org name).0 same)) ∙ had) step
-    ∙ sym (state_then-known org name request reply (state_at (kept_at before name)) is_org)
-
--- the same of one that wasn't there
-left_under : (own : Bool) (before now new : State) (request : Request) (reply : Reply)
+written_under : (own : Bool) (before now new : Option Kept) (had has left : Holding) (full : FullState) (request : Request) (reply : Reply)
     → now ≡ cond own new before
-    → (own ≡ true → before ≡ None)
-    → new ≡ after (mark_of reply) request None
-    → now ≡ cond own (after (mark_of reply) request before) before
-left_under true before now new request reply kept none step = kept ∙ step ∙ ap (after (mark_of reply) request) (sym (none refl))
-left_under false before now new request reply kept none step = kept
+    → (own ≡ true → has ≡ left)
+    → (own ≡ false → has ≡ had)
+    → (own ≡ true → full_of before had ≡ full)
+    → full_of new left ≡ after (mark_of reply) request full
+    → full_of now has ≡ cond own (after (mark_of reply) request (full_of before had)) (full_of before had)
+written_under true before now new had has left full request reply put is_left stays was step =
+    (λ i. full_of (put i) (is_left refl i)) ∙ step ∙ ap (after (mark_of reply) request) (sym (was refl))
+written_under false before now new had has left full request reply put is_left stays was step = λ i. full_of (put i) (stays refl i)
 
--- what a request left of an organisation that wasn't there is the state under its name
-pub states-left : (before now : List ℕ → State) (org : List ℕ) (new : State) (request : Request) (reply : Reply)
-    → ((name : List ℕ) → now name ≡ cond (bytes_eq org name) new (before name))
-    → before org ≡ None
+-- what is kept under the name of an organisation is replaced, and so are its files
+pub states-written : (before now : KeptOrganisations) (files_before files_now : KeptByName) (org : List ℕ) (new : Option Kept) (full : FullState) (request : Request) (reply : Reply)
+    → ((name : List ℕ) → kept_at now name ≡ cond (bytes_eq org name) new (kept_at before name))
+    → OthersStay org files_before files_now
+    → full_at before files_before org ≡ full
     → org_of request ≡ Some org
-    → new ≡ after (mark_of reply) request None
-    → (name : List ℕ) → now name ≡ state_then name request reply (before name)
-states-left before now org new request reply kept none is_org step name =
-    left_under (bytes_eq org name) (before name) (now name) new request reply (kept name)
-    (λ same. ap before (sym ((bytes_decides org name).0 same)) ∙ none) step
-    ∙ sym (state_then-known org name request reply (before name) is_org)
+    → full_of new (holding_of files_now org) ≡ after (mark_of reply) request full
+    → (name : List ℕ) → full_at now files_now name ≡ state_then name request reply (full_at before files_before name)
+states-written before now files_before files_now org new full request reply put stay had is_org step name =
+    written_under (bytes_eq org name) (kept_at before name) (kept_at now name) new (holding_of files_before name) (holding_of files_now name) (holding_of files_now org) full request reply
+    (put name) (files_own files_now org name) (files_other files_before files_now org name stay)
+    (λ same. ap (full_at before files_before) (sym ((bytes_decides org name).0 same)) ∙ had) step
+    ∙ sym (state_then-known org name request reply (full_at before files_before name) is_org)
 
--- under one name: none of an organisation that isn't there, any other as before
-none_under : (own : Bool) (before new : State) → (own ≡ true → before ≡ None) → new ≡ None → before ≡ cond own new before
-none_under true before new none gone = none refl ∙ sym gone
-none_under false before new none gone = refl
+-- what is kept of an organisation where it is there is its state
+if_there : (kept : Kept) (state : State) → state_in kept ≡ state → state_at (cond (is_some state) (Some kept) None) ≡ state
+if_there kept None same = refl
+if_there kept (Some organisation) same = same
 
--- one that wasn't there and isn't there changes no state
-pub states-same : (before : List ℕ → State) (org : List ℕ) (new : State) → before org ≡ None → new ≡ None → (name : List ℕ) → before name ≡ cond (bytes_eq org name) new (before name)
-states-same before org new none gone name =
-    none_under (bytes_eq org name) (before name) new (λ same. ap before (sym ((bytes_decides org name).0 same)) ∙ none) gone
+pub state-if_there : (kept : Kept) → state_at (kept_if_there kept) ≡ state_in kept
+state-if_there kept = if_there kept (state_in kept) refl
 
--- what stands under a name is the state of what is kept there
-kept_under : (own : Bool) (before now : Option Kept) (new : Kept) → now ≡ cond own (Some new) before → state_at now ≡ cond own (state_in new) (state_at before)
-kept_under true before now new put = ap state_at put
-kept_under false before now new put = ap state_at put
+-- and it is there
+kept_is_there : (kept : Kept) (state : State) → state_in kept ≡ state → ForSome (cond (is_some state) (Some kept) None) (λ k. state_in k ≢ None)
+kept_is_there kept None same k is gone = cc
+kept_is_there kept (Some organisation) same k is gone = cc (sym same ∙ ap state_in (some_is kept k is) ∙ gone)
 
--- what is kept under the name of an organisation is the state there, and every other is as before
-pub states-kept : (before now : KeptOrganisations) (org : List ℕ) (new : Kept)
-    → ((name : List ℕ) → kept_at now name ≡ cond (bytes_eq org name) (Some new) (kept_at before name))
-    → (name : List ℕ) → state_at (kept_at now name) ≡ cond (bytes_eq org name) (state_in new) (state_at (kept_at before name))
-states-kept before now org new put name = kept_under (bytes_eq org name) (kept_at before name) (kept_at now name) new (put name)
+pub there-if_there : (kept : Kept) → ForSome (kept_if_there kept) (λ k. state_in k ≢ None)
+there-if_there kept = kept_is_there kept (state_in kept) refl
+
+-- and has its name
+kept_has_name : (b : Bool) (kept : Kept) (name : List ℕ) → kept.name ≡ name → ForSome (cond b (Some kept) None) (λ k. k.name ≡ name)
+kept_has_name true kept name same k is = subst (λ (x : Kept). x.name ≡ name) (some_is kept k is) same
+kept_has_name false kept name same k is = cc
+
+pub named-if_there : (kept : Kept) (name : List ℕ) → kept.name ≡ name → ForSome (kept_if_there kept) (λ k. k.name ≡ name)
+named-if_there kept name same = kept_has_name (is_some (state_in kept)) kept name same
+
+-- where it isn't kept, it isn't there
+gone_if : (kept : Kept) (state : State) → cond (is_some state) (Some kept) None ≡ None → state ≡ None
+gone_if kept None is = refl
+gone_if kept (Some organisation) is = cc
+
+pub gone-if_there : (kept : Kept) → kept_if_there kept ≡ None → state_in kept ≡ None
+gone-if_there kept is = gone_if kept (state_in kept) is
 
 -- no move makes an organisation go
 moves_keep : (moves : List Move) (organisation : Organisation) → after_moves moves (Some organisation) ≢ None
 moves_keep [] organisation gone = absurd (cc)
 moves_keep (move ∷ rest) organisation gone = moves_keep rest (within move organisation) gone
 
+moves_stay : (moves : List Move) (state : State) → state ≢ None → after_moves moves state ≢ None
+moves_stay moves None there gone = there refl
+moves_stay moves (Some organisation) there gone = moves_keep moves organisation gone
+
 -- so one that is there before a request is there after it
-pub stays_there : (mark : Mark) (request : Request) (state : State) → state ≢ None → after mark request state ≢ None
-stays_there served request None there gone = there refl
-stays_there served request (Some organisation) there gone = moves_keep (step request (Some organisation)).moves organisation gone
-stays_there short request state there gone = there gone
-stays_there down request state there gone = there gone
+pub stays_there : (mark : Mark) (request : Request) (full : FullState) → full.state ≢ None → (after mark request full).state ≢ None
+stays_there served request full there gone = moves_stay (step request full).moves full.state there gone
+stays_there short request full there gone = there gone
+stays_there down request full there gone = there gone
 
--- one entry alike is the other
-some_is : {X : Type 0} (x y : X) → Some x ≡ Some y → x ≡ y
-some_is x y same = cc
-
--- a pair that comes back is the one that was given
-pub given-back : (b : Bool) (key k : List ℕ) (state s : Kept) → then_some {T = List ℕ × Kept} b (key, state) ≡ Some (k, s) → (k ≡ key) × (s ≡ state)
+-- a pair that comes back is the one that was given, and comes back where the test holds
+pub given-back : (b : Bool) (key k : List ℕ) (state s : Kept) → then_some {T = List ℕ × Kept} b (key, state) ≡ Some (k, s) → (b ≡ true) × (k ≡ key) × (s ≡ state)
 given-back true key k state s is =
     let pair = some_is {X = List ℕ × Kept} (key, state) (k, s) is in
-    (sym (ap (λ (p : List ℕ × Kept). p.0) pair), sym (ap (λ (p : List ℕ × Kept). p.1) pair))
+    (refl, sym (ap (λ (p : List ℕ × Kept). p.0) pair), sym (ap (λ (p : List ℕ × Kept). p.1) pair))
 given-back false key k state s is = let none : ⊥ = cc is in absurd none
 
--- under one name: what was written is there, and any other as before
-there_under : (own : Bool) (before now : Option Kept) (new : Kept)
-    → now ≡ cond own (Some new) before
-    → state_in new ≢ None
-    → ForSome before (λ kept. state_in kept ≢ None)
-    → ForSome now (λ kept. state_in kept ≢ None)
-there_under true before now new put there were kept is = subst (λ k. state_in k ≢ None) (some_is new kept (sym put ∙ is)) there
-there_under false before now new put there were kept is = were kept (sym put ∙ is)
+pub none-back : (b : Bool) (pair : List ℕ × Kept) → then_some b pair ≡ None → b ≡ false
+none-back true pair is = cc
+none-back false pair is = refl
 
--- all that is kept is there, once one more that is there was written
-pub there-written : (before now : KeptOrganisations) (org : List ℕ) (new : Kept)
-    → ((name : List ℕ) → kept_at now name ≡ cond (bytes_eq org name) (Some new) (kept_at before name))
-    → state_in new ≢ None
-    → ((name : List ℕ) → ForSome (kept_at before name) (λ kept. state_in kept ≢ None))
-    → (name : List ℕ) → ForSome (kept_at now name) (λ kept. state_in kept ≢ None)
-there-written before now org new put there were name =
-    there_under (bytes_eq org name) (kept_at before name) (kept_at now name) new (put name) there (were name)
+none_under : (own : Bool) (before : Option Kept) → (own ≡ true → before ≡ None) → before ≡ cond own None before
+none_under true before none = none refl
+none_under false before none = refl
 
--- under one name: what was written has it, and any other as before
-named_under : (own : Bool) (before now : Option Kept) (new : Kept) (name : List ℕ)
-    → now ≡ cond own (Some new) before
-    → (own ≡ true → new.name ≡ name)
-    → ForSome before (λ kept. kept.name ≡ name)
-    → ForSome now (λ kept. kept.name ≡ name)
-named_under true before now new name put owns were kept is = subst (λ k. k.name ≡ name) (some_is new kept (sym put ∙ is)) (owns refl)
-named_under false before now new name put owns were kept is = were kept (sym put ∙ is)
+-- nothing is kept under the name of an organisation of which nothing was
+pub none-kept : (before : KeptOrganisations) (org name : List ℕ) → kept_at before org ≡ None → kept_at before name ≡ cond (bytes_eq org name) None (kept_at before name)
+none-kept before org name none = none_under (bytes_eq org name) (kept_at before name) (λ same. ap (kept_at before) (sym ((bytes_decides org name).0 same)) ∙ none)
 
--- all that is kept has the name that it is kept under, once one more was written under its own
-pub named-written : (before now : KeptOrganisations) (org : List ℕ) (new : Kept)
-    → ((name : List ℕ) → kept_at now name ≡ cond (bytes_eq org name) (Some new) (kept_at before name))
-    → new.name ≡ org
-    → ((name : List ℕ) → ForSome (kept_at before name) (λ kept. kept.name ≡ name))
-    → (name : List ℕ) → ForSome (kept_at now name) (λ kept. kept.name ≡ name)
-named-written before now org new put is_named were name =
-    named_under (bytes_eq org name) (kept_at before name) (kept_at now name) new name (put name)
-    (λ same. is_named ∙ (bytes_decides org name).0 same) (were name)
+-- under one name: what was written has the property, and any other as before
+each_under : (P : Kept → Type 0) (own : Bool) (before now new : Option Kept) → now ≡ cond own new before → (own ≡ true → ForSome new P) → ForSome before P → ForSome now P
+each_under P true before now new put has were kept is = has refl kept (sym put ∙ is)
+each_under P false before now new put has were kept is = were kept (sym put ∙ is)
+
+-- all that is kept has a property, once one more that has it was written
+pub each-written : (P : List ℕ → Kept → Type 0) (before now : KeptOrganisations) (org : List ℕ) (new : Option Kept)
+    → ((name : List ℕ) → kept_at now name ≡ cond (bytes_eq org name) new (kept_at before name))
+    → ForSome new (P org)
+    → ((name : List ℕ) → ForSome (kept_at before name) (P name))
+    → (name : List ℕ) → ForSome (kept_at now name) (P name)
+each-written P before now org new put has were name =
+    each_under (P name) (bytes_eq org name) (kept_at before name) (kept_at now name) new (put name)
+    (λ same. subst (λ (n : List ℕ). ForSome new (P n)) ((bytes_decides org name).0 same) has) (were name)
+
+-- under one name: who isn't kept has no files
+stranger_under : (own : Bool) (before now new : Option Kept) (had has left : Holding) → now ≡ cond own new before → (own ≡ true → has ≡ left) → (own ≡ false → has ≡ had)
+    → (new ≡ None → left ≡ nothing) → (before ≡ None → had ≡ nothing) → now ≡ None → has ≡ nothing
+stranger_under true before now new had has left put is_left stays gone were is = is_left refl ∙ gone (sym put ∙ is)
+stranger_under false before now new had has left put is_left stays gone were is = stays refl ∙ were (sym put ∙ is)
+
+-- who isn't kept has no files, once one more organisation was written with its files
+pub strangers-written : (before now : KeptOrganisations) (files_before files_now : KeptByName) (org : List ℕ) (new : Option Kept)
+    → ((name : List ℕ) → kept_at now name ≡ cond (bytes_eq org name) new (kept_at before name))
+    → OthersStay org files_before files_now
+    → (new ≡ None → holding_of files_now org ≡ nothing)
+    → ((name : List ℕ) → kept_at before name ≡ None → holding_of files_before name ≡ nothing)
+    → (name : List ℕ) → kept_at now name ≡ None → holding_of files_now name ≡ nothing
+strangers-written before now files_before files_now org new put stay gone were name =
+    stranger_under (bytes_eq org name) (kept_at before name) (kept_at now name) new (holding_of files_before name) (holding_of files_now name) (holding_of files_now org)
+    (put name) (files_own files_now org name) (files_other files_before files_now org name stay) gone (were name)
 
 -- what a call that succeeds promises
 pub on_ok : {T E P : Type 0} (result : Result T E) → IsOk result → OnOk result P → P
@@ -156,7 +173,7 @@ on_ok (Ok value) ok promised = promised
 on_ok (Err error) ok promised = absurd (cc)
 
 -- a request of one organisation is of no other
-state_then-other : (org name : List ℕ) (request : Request) (reply : Reply) (state : State) → org_of request ≡ Some org → org ≢ name
+state_then-other : (org name : List ℕ) (request : Request) (reply : Reply) (state : FullState) → org_of request ≡ Some org → org ≢ name
     → state_then name request reply state ≡ state
 state_then-other org name request reply state is_org other =
     state_then-known org name request reply state is_org
@@ -178,8 +195,8 @@ get-set_same (s ∷ shards) zero new within = refl
 get-set_same (s ∷ shards) (suc number) new within = get-set_same shards number new (omega arith)
 
 -- the state that the shard at a place keeps under a name
-abbrev kept_by : List ℕ → Option Shard → State
-kept_by name shard = option_map_or (λ s. states_in s name) shard None
+abbrev kept_by : List ℕ → Option Shard → FullState
+kept_by name shard = option_map_or (λ s. states_in s name) shard none
 
 -- the same place, or another one
 site_under : (shards : List Shard) (number place : ℕ) (old new : Shard) (org name : List ℕ) (request : Request) (reply : Reply)

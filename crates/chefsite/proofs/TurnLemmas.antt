@@ -1,19 +1,22 @@
 -- How the loop over a stream goes on from turn to turn, and what it comes to in the end.
-use Rattle.std.proofs.Common.{◌≡◌, ◌+◌, ℕ, List, [], ◌∷◌, ◌++◌, length, Option, None, Some, sym, ap, subst, refl, ◌∙◌, append_assoc, append-nil}
+use Rattle.std.proofs.Common.{◌≡◌, ◌+◌, ℕ, List, [], ◌∷◌, ◌++◌, length, Option, None, Some, Result, Ok, Err, IfSome, IfErr, OnErr, MatchResult, sym, ap, subst, refl, ◌∙◌, append_assoc, append-nil}
 use Rattle.std.specs.Io.KnownBytes.{append_known, prepend_known}
 use Rattle.std.proofs.KnownBytes.{prepend_known-nil}
 use Rattle.std.proofs.lemmas.List.{map-append}
 use Rattle.std.proofs.lemmas.List.Concat.{flat_map-append}
 use Rattle.outside_core.specs.Sink.{GainsPart, PassesOn}
 use Rattle.outside_core.proofs.SinkLemmas.{append_known-append}
+use Rattle.org_core.specs.FullStates.{none}
+use Rattle.org_core.specs.declared.replies.Reply.{Reply}
+use Rattle.org_core.specs.declared.requests.Request.{Request}
 use Rattle.org_machine.specs.Alone.{Exchange, States, nobody}
-use Rattle.org_machine.specs.Serving.{Progress}
+use Rattle.org_machine.specs.Serving.{Progress, Serves}
 use Rattle.org_machine.proofs.Going.{none_yet, one_more}
 use Rattle.http_wire.specs.Message.{Message, print_message}
 use Rattle.http_wire.specs.Splits.{Takes}
 use Rattle.http_wire.specs.Held.{Held}
 use Rattle.http_wire.specs.Room.{stream}
-use Rattle.http_wire.specs.Requests.{request_of}
+use Rattle.http_wire.specs.Requests.{IsRead, request_of}
 use Rattle.http_wire.specs.Replies.{reply_text}
 use Rattle.http_wire.proofs.SplitsLemmas.{TakesAll-push, place_after-push}
 use Rattle.chefsite.specs.declared.answering.End.{End}
@@ -56,9 +59,40 @@ reply_texts-push es e =
     flat_map-append (λ (x : Exchange). reply_text x.reply) es (e ∷ [])
     ∙ ap (λ xs. reply_texts es ++ xs) (append-nil (reply_text e.reply))
 
+-- a request was read as a message spells it, which was taken from the front of what was left
+abbrev pub WasTaken : ℕ → ℕ → Option (List ℕ) → Option (List ℕ) → Request → Type 0
+WasTaken place next old new read =
+    (message : Message) × IsRead read (request_of message) × Takes place old new message × (next ≡ place + length (print_message message))
+
+lost_turn : (result : Result (Unit {0}) End) (place next : ℕ) (old new rest : Option (List ℕ)) (before after : States) (held gained : Option (List ℕ)) (waited waiting : List ℕ) (read : Request)
+    → WasTaken place next old new read
+    → ((spelled : Request) → IsRead read spelled
+    → (reply : Reply) × Serves before spelled reply after
+    × MatchResult result (λ _. PassesOn held gained (waited ++ reply_text reply) waiting) (λ _. GainsPart held gained (waited ++ reply_text reply)))
+    → IfErr result (λ end. end ≡ WriteFault) → OnErr result (waiting ≡ [])
+    → IfErr result (λ end. EndsTurn end place old rest before held gained waited waiting)
+lost_turn (Ok done) place next old new rest before after held gained waited waiting read taken served fault dropped = tt
+lost_turn (Err end) place next old new rest before after held gained waited waiting read taken served fault dropped =
+    let (message, spells, takes, reached) = taken in
+    let (reply, serves, part) = served (request_of message) spells in
+    subst (λ e. EndsTurn e place old rest before held gained waited waiting) (sym fault)
+    ((message, reply, new, after, record { takes = takes; serves = serves }, part), dropped)
+
+-- a message was taken and served, and its reply wasn't written: the turn ends the loop
+pub ended_turn : (result : Result (Unit {0}) End) (place next : ℕ) (old new rest : Option (List ℕ)) (before after : States) (held gained : Option (List ℕ)) (waited waiting : List ℕ)
+    (found : Option Request) (read : Request)
+    → found ≡ Some read → IfSome found (WasTaken place next old new)
+    → ((spelled : Request) → IsRead read spelled
+    → (reply : Reply) × Serves before spelled reply after
+    × MatchResult result (λ _. PassesOn held gained (waited ++ reply_text reply) waiting) (λ _. GainsPart held gained (waited ++ reply_text reply)))
+    → IfErr result (λ end. end ≡ WriteFault) → OnErr result (waiting ≡ [])
+    → IfErr result (λ end. EndsTurn end place old rest before held gained waited waiting)
+ended_turn result place next old new rest before after held gained waited waiting found read is taken =
+    lost_turn result place next old new rest before after held gained waited waiting read (subst (λ (o : Option Request). IfSome o (WasTaken place next old new)) is taken)
+
 -- before the first turn
 pub at_first : (first held : Option (List ℕ)) (room : Held) (states : States) (waiting : List ℕ)
-    → room ≡ record { held = []; place = 0 } → waiting ≡ [] → ((name : List ℕ) → states name ≡ None)
+    → room ≡ record { held = []; place = 0 } → waiting ≡ [] → ((name : List ℕ) → states name ≡ none)
     → SoFar first (stream room first) room.place states held held waiting
 at_first first held room states waiting empty none absent = record {
   messages = [];

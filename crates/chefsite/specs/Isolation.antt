@@ -1,7 +1,8 @@
 -- The isolation theorem over bytes: what a run read, what it answered, and what it wrote.
-use Rattle.std.specs.Prelude.{◌≡◌, ◌≢◌, ℕ, List, [], ◌++◌, map, Option, None, IfSome}
+use Rattle.std.specs.Prelude.{◌≡◌, ◌≢◌, ℕ, List, [], ◌++◌, map, Option, IfSome}
 use Rattle.std.specs.List.{flat_map}
 use Rattle.std.specs.Io.KnownBytes.{append_known, prepend_known, IsAtEnd}
+use Rattle.org_core.specs.FullStates.{none}
 use Rattle.org_machine.specs.Alone.{Exchange, Asked, Alone, asked_in, own, nobody, replies_alone}
 use Rattle.org_machine.specs.Permitting.{ArePermittedExactly}
 use Rattle.http_wire.specs.Message.{Message}
@@ -19,7 +20,7 @@ bytes_to name exchanges = reply_texts (own name exchanges)
 
 -- the bytes that the small machine answers, given these requests and what befell them alone, from no organisation on
 abbrev pub bytes_alone : List Asked → List ℕ
-bytes_alone asked = flat_map reply_text (replies_alone None asked)
+bytes_alone asked = flat_map reply_text (replies_alone none asked)
 
 -- one reply to the request that each message spells, in order, and to each organisation those of the
 -- small machine that is given its own requests alone
@@ -27,7 +28,7 @@ pub record Answers (messages : List Message) (exchanges : List Exchange) : Type 
   pub requests : map (λ e. e.request) exchanges ≡ map request_of messages
   pub alone : Alone nobody exchanges
   -- each request of an organisation is permitted exactly by its lists: 403 exactly where they don't permit what it needs
-  pub permitted : (name : List ℕ) → ArePermittedExactly None (own name exchanges)
+  pub permitted : (name : List ℕ) → ArePermittedExactly none (own name exchanges)
   -- so the bytes answered to an organisation are those of the small machine, whatever the others asked
   pub bytes : (name : List ℕ) → bytes_to name exchanges ≡ bytes_alone (map asked_in (own name exchanges))
   -- and two worlds that agree on its own requests and on what befell them give it equal bytes

@@ -12,7 +12,7 @@ has names name = contains name_cmp names name
 
 -- an organisation of this name is there
 abbrev pub is_there : States → List ℕ → Bool
-is_there states name = is_some (states name)
+is_there states name = is_some (states name).state
 
 -- an organisation of this name belongs to the shard of this number, of so many
 abbrev pub belongs : ℕ → ℕ → List ℕ → Bool

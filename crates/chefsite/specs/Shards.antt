@@ -1,13 +1,14 @@
 -- Which shard an organisation belongs to, and the states that shards keep.
-use Rattle.std.specs.Prelude.{ℕ, ◌%◌, List, None, ◌<◌, ◌≤◌, sum, length, slice_get}
+use Rattle.std.specs.Prelude.{ℕ, ◌%◌, List, ◌<◌, ◌≤◌, sum, length, slice_get}
 use Rattle.std.specs.Option.{option_map_or}
+use Rattle.org_core.specs.FullStates.{none}
 use Rattle.org_machine.specs.Alone.{States}
-use Rattle.chefsite.specs.Organisations.{kept_at, state_at, HasRoomFor}
+use Rattle.chefsite.specs.Organisations.{full_at, HasRoomFor}
 use Rattle.chefsite.specs.declared.shards.Shard.{Shard}
 
 -- the states of a shard's organisations
 abbrev pub states_in : Shard → States
-states_in shard name = state_at (kept_at shard.organisations name)
+states_in shard name = full_at shard.organisations shard.files name
 
 -- the number of the shard that an organisation belongs to: the sum of its name's bytes, by the number of shards
 abbrev pub shard_of : List ℕ → ℕ → ℕ
@@ -15,7 +16,7 @@ shard_of name shards = sum name % shards
 
 -- the states of all shards' organisations
 abbrev pub site_states : List Shard → States
-site_states shards name = option_map_or (λ shard. states_in shard name) (slice_get shards (shard_of name (length shards))) None
+site_states shards name = option_map_or (λ shard. states_in shard name) (slice_get shards (shard_of name (length shards))) none
 
 -- the shard can keep one more organisation without memory
 abbrev pub HasRoom : Shard → Type 0

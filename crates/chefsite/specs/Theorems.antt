@@ -15,6 +15,7 @@
 --   RunsAlone, Alone           org_machine/specs/Alone.antt     the replies are the small machine's: to one organisation, to each
 --   mark_of, answer, after     org_machine/specs/Marks.antt     what befell a request, the reply to it and the state after it
 --   step                       org_machine/specs/Steps.antt     one request of one organisation
+--   FullState                  org_core/specs/FullStates.antt   the state of an organisation: what it holds, with its files and sandboxes
 --   ArePermittedExactly        org_machine/specs/Permitting.antt  403 comes exactly where the lists don't permit what a request needs
 --   Permitted                  access_lists/specs/Permitted.antt  who may do what
 --   bytes_to, bytes_alone      specs/Isolation.antt             the bytes answered to an organisation, and the small machine's

@@ -3,6 +3,7 @@
 ghost use Rattle.std.specs.Prelude.{◌≡◌, ◌≤◌, ◌-◌, ◌++◌, ℕ, [], List, None, OnOk, OnErr, IfErr, MatchResult, length};
 ghost use Rattle.outside_core.specs.Failed.{HasCause};
 ghost use Rattle.outside_core.specs.Sink.{GainsPart, PassesOn};
+ghost use Rattle.org_core.specs.FullStates.{none};
 ghost use Rattle.org_core.specs.declared.replies.Reply as reply;
 ghost use Rattle.org_core.specs.declared.requests.Request as asked;
 ghost use Rattle.org_machine.specs.Serving.{Serves};
@@ -49,7 +50,7 @@ pub(crate) fn answer_all<I: Source, U: Sink, L: Ledger>(
     requires site { IsSite shards.old }
     requires room { room.old ≡ record { held = []; place = 0 } }
     requires buffer { buffer.old.waiting ≡ [] }
-    requires nobody { (name : List ℕ) → site_states shards.old name ≡ None }
+    requires nobody { (name : List ℕ) → site_states shards.old name ≡ none }
     ensures end { EndsStream result (I.left input.old) (I.left input.new) (U.gained output.old) (U.gained output.new) buffer.new.waiting }
     ensures cause { HasFaultCause result (I.faults input.old) (I.faults input.new) (U.faults output.old) (U.faults output.new) }
     ensures read { I.faults input.old ≤ I.faults input.new }

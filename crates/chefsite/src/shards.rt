@@ -1,32 +1,43 @@
 //! The organisations of a site, kept in shards: the contract that a shard has is all that the
 //! theorem above stands on.
 
-ghost use Rattle.std.specs.Prelude.{◌≡◌, ◌≢◌, ℕ, List, None};
+ghost use Rattle.std.specs.Prelude.{◌≡◌, ◌≢◌, ℕ, List, Some, None, cond, bytes_eq};
 ghost use Rattle.std.specs.Option.{ForSome};
 ghost use Rattle.org_core.specs.States.{state_in};
-ghost use Rattle.chefsite.specs.Organisations.{kept_at};
+ghost use Rattle.sandboxes.specs.Files.{holding_of};
+ghost use Rattle.sandboxes.specs.Sandboxes.{nothing, holding_code};
+ghost use base.Stored.{Coded-set};
+ghost use Rattle.chefsite.specs.Organisations.{kept_at, kept_if_there, HasRoomFor};
 
 use crate::names::{add_name, is_shown};
 use doc_tree::{NoMemory, Steps, Text};
 use indexmap::IndexMap;
 use org_machine::{OrgState, Reply, Request, out_of_memory};
+use sandboxes::Files;
 use std::alloc::Global;
 use std::collections::BTreeSet;
 use std::hash::RandomState;
 use std::sync::ledger::Ledger;
 
-/// The organisations of one shard, by their names.
+/// The organisations of one shard, by their names, and the files of all of them.
 #[derive(Drop)]
 pub struct Shard {
-    organisations: IndexMap<Text, OrgState, RandomState>,
+    organisations: Organisations,
+    files: Files,
     hasher: RandomState,
     ghost named: { (name : List ℕ) → ForSome (kept_at organisations name) (λ kept. kept.name ≡ name) },
     // None is kept that isn't there, so what is asked of strangers costs no memory.
     ghost there: { (name : List ℕ) → ForSome (kept_at organisations name) (λ kept. state_in kept ≢ None) },
+    // And who isn't kept has no files.
+    ghost strangers: { (name : List ℕ) → kept_at organisations name ≡ None → holding_of files name ≡ nothing } by { λ one other i name none. Coded-set holding_code (holding_of files name) nothing (one name none) (other name none) i },
 }
 
+/// The organisations of a shard, by their names.
+type Organisations = IndexMap<Text, OrgState, RandomState>;
+
 impl Shard {
-    ghost use Rattle.std.specs.Prelude.{◌<◌, ◌≤◌, ◌||◌, Some, IfOk, OnOk, cond, bytes_eq};
+    ghost use Rattle.std.specs.Prelude.{◌<◌, ◌≤◌, ◌||◌, IfOk, OnOk};
+    ghost use Rattle.org_core.specs.FullStates.{none};
     ghost use Rattle.org_core.specs.Requests.{org_of};
     ghost use Rattle.org_machine.specs.Marks.{mark_of, answer, IsLawful};
     ghost use Rattle.org_machine.specs.Serving.{IsGood, state_then};
@@ -35,10 +46,11 @@ impl Shard {
 
     /// A shard without organisations, whose maps hash by this hasher. It takes no memory.
     pub fn new(alloc: Global, hasher: RandomState) -> Shard
-        ensures { (name : List ℕ) → states_in result name ≡ None }
+        ensures { (name : List ℕ) → states_in result name ≡ none }
     {
         Shard {
             organisations: IndexMap::with_hasher(alloc, hasher),
+            files: Files::none(alloc),
             hasher,
         }
     }
@@ -61,7 +73,7 @@ impl Shard {
         ensures stays { ¬ (IsGood result.status) → (name : List ℕ) → states_in self.new name ≡ states_in self.old name }
     {
         match self.organisations.get_mut(org) {
-            Some(state) => org_machine::serve(alloc, state, request, steps),
+            Some(state) => org_machine::serve(alloc, state, &mut self.files, request, steps),
             None => self.serve_absent(alloc, org, request, steps),
         }
     }
@@ -97,7 +109,7 @@ impl Shard {
         steps: &mut Steps<L>,
     ) -> Reply
         requires of { org_of request.now ≡ Some org.now }
-        requires absent { states_in self.old org.now ≡ None }
+        requires absent { kept_at self.old.organisations org.now ≡ None }
         ensures reply { result ≡ answer (mark_of result) request.now (states_in self.old org.now) }
         ensures lawful { IsLawful (mark_of result) request.now (states_in self.old org.now) }
         ensures states { (name : List ℕ) →
@@ -112,6 +124,7 @@ impl Shard {
     // All the memory that a new organisation needs here: its name twice, and a place in the map.
     fn make_room(&mut self, alloc: Global, org: &Text) -> Result<(Text, OrgState), NoMemory>
         ensures states { (name : List ℕ) → states_in self.new name ≡ states_in self.old name }
+        ensures absent { kept_at self.new.organisations org.now ≡ kept_at self.old.organisations org.now }
         ensures key { IfOk result (λ made. made.0 ≡ org.now) }
         ensures name { IfOk result (λ made. made.1.name ≡ org.now) }
         ensures state { IfOk result (λ made. state_in made.1 ≡ None) }
@@ -134,7 +147,7 @@ impl Shard {
         requires of { org_of request.now ≡ Some key }
         requires name { state.name ≡ key }
         requires none { state_in state ≡ None }
-        requires absent { states_in self.old key ≡ None }
+        requires absent { kept_at self.old.organisations key ≡ None }
         requires room { HasRoom self.old }
         ensures reply { result ≡ answer (mark_of result) request.now (states_in self.old key) }
         ensures lawful { IsLawful (mark_of result) request.now (states_in self.old key) }
@@ -142,32 +155,29 @@ impl Shard {
             states_in self.new name ≡ state_then name request.now result (states_in self.old name) }
     {
         let mut state = state;
-        let reply = org_machine::serve(alloc, &mut state, request, steps);
-        self.keep_if_there(key, state);
+        let reply = org_machine::serve(alloc, &mut state, &mut self.files, request, steps);
+        keep_if_there(&mut self.organisations, key, state);
         reply
     }
+}
 
-    // Keeps an organisation, of which nothing was kept before, if it is there.
-    fn keep_if_there(&mut self, key: Text, state: OrgState)
-        requires name { state.name ≡ key }
-        requires absent { states_in self.old key ≡ None }
-        requires room { HasRoom self.old }
-        ensures { (name : List ℕ) → states_in self.new name ≡ cond (bytes_eq key name) (state_in state) (states_in self.old name) }
-    {
-        let is_there = state.is_there();
-        match is_there.then_some((key, state)) {
-            Some((key, state)) => self.keep(key, state),
-            None => {}
-        }
+// Keeps an organisation, of which nothing was kept before, if it is there.
+fn keep_if_there(organisations: &mut Organisations, key: Text, state: OrgState)
+    requires absent { kept_at organisations.old key ≡ None }
+    requires room { HasRoomFor organisations.old }
+    ensures { (name : List ℕ) → kept_at organisations.new name ≡ cond (bytes_eq key name) (kept_if_there state) (kept_at organisations.old name) }
+{
+    let is_there = state.is_there();
+    match is_there.then_some((key, state)) {
+        Some((key, state)) => keep(organisations, key, state),
+        None => {}
     }
+}
 
-    // Keeps an organisation that is there.
-    fn keep(&mut self, key: Text, state: OrgState)
-        requires name { state.name ≡ key }
-        requires there { state_in state ≢ None }
-        requires room { HasRoom self.old }
-        ensures { (name : List ℕ) → states_in self.new name ≡ cond (bytes_eq key name) (state_in state) (states_in self.old name) }
-    {
-        drop(self.organisations.insert(key, state));
-    }
+// Keeps an organisation.
+fn keep(organisations: &mut Organisations, key: Text, state: OrgState)
+    requires room { HasRoomFor organisations.old }
+    ensures { (name : List ℕ) → kept_at organisations.new name ≡ cond (bytes_eq key name) (Some state) (kept_at organisations.old name) }
+{
+    drop(organisations.insert(key, state));
 }

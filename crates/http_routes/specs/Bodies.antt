@@ -1,33 +1,67 @@
 -- How the body of a request is read: by its place and its method, once its head is known.
-use Rattle.std.specs.Prelude.{Bool, ◌||◌, not, ℕ, List, length, nat_lt, Result, Ok, Err, is_some, cond, if◌then◌else◌}
+use Rattle.std.specs.Prelude.{Bool, true, false, ◌||◌, not, ℕ, List, length, nat_lt, Result, Ok, Err, is_some, cond, if◌then◌else◌}
 use Rattle.doc_tree.specs.Doc.{Doc}
 use Rattle.doc_tree.specs.Tree.{tree_of}
 use Rattle.doc_tree.specs.Read.{reads}
 use Rattle.doc_tree.specs.declared.read.ReadFault.{ReadFault}
-use Rattle.doc_tree.specs.declared.read.ReadFault.TheVariants.{NotJson, TooDeep, NotWhole, NoMemory}
+use Rattle.doc_tree.specs.declared.read.ReadFault.TheVariants.{NotJson, TooDeep, NotWhole, NoMemory as NoMemoryToRead}
 use Rattle.org_core.specs.declared.requests.BadBody.TheVariants as bad
 use Rattle.org_core.specs.declared.requests.Body.{Body}
-use Rattle.org_core.specs.declared.requests.Body.TheVariants.{Empty, Doc as Read, Bad, TooLong}
+use Rattle.org_core.specs.declared.requests.Body.TheVariants.{Empty, Doc as Read, Bad, Raw as Sent, TooLong}
 use Rattle.org_core.specs.declared.requests.Place.{Place}
+use Rattle.org_core.specs.declared.requests.Place.TheVariants.{Of, Organisations, LeftOut, NoRoute, NoMemory}
 use Rattle.org_core.specs.declared.requests.Request.{Request}
+use Rattle.org_core.specs.declared.routes.CookbookRoute.{CookbookRoute}
+use Rattle.org_core.specs.declared.routes.CookbookRoute.TheVariants.{Sandboxes, Sandbox, File, Cookbooks as AllCookbooks, Cookbook, Version, Universe, Artifacts, Artifact, SolvedVersions}
+use Rattle.org_core.specs.declared.routes.Route.{Route}
+use Rattle.org_core.specs.declared.routes.Route.TheVariants.{Organisation, Objects, Data, Access, Cookbooks, Policies, Search}
 use Rattle.org_machine.specs.Heads.{head_refusal}
 use Rattle.route_table.specs.declared.verbs.Verb.{Verb}
 use Rattle.route_table.specs.declared.verbs.Verb.TheVariants.{Get, Post, Put, Delete, Other}
 use Rattle.http_routes.specs.declared.bodies.BodyForm.{BodyForm}
-use Rattle.http_routes.specs.declared.bodies.BodyForm.TheVariants.{Dropped, Json}
+use Rattle.http_routes.specs.declared.bodies.BodyForm.TheVariants.{Dropped, Json, Raw}
 use Rattle.http_routes.specs.Places.{is_creation}
 
 -- the most bytes of a body that is looked at
 abbrev pub most_body : ℕ
 most_body = 4194304
 
--- the form of the body that is sent to a place by a method: JSON (RFC 8259) by POST and PUT, and else
--- dropped. The bytes of a file will be a form of their own: the case of a PUT to `files` stands before
--- these once it is built, and is why the place is known here
+-- the route is that of a file
+abbrev pub is_file_route : CookbookRoute → Bool
+is_file_route Sandboxes = false
+is_file_route (Sandbox id) = false
+is_file_route (File checksum) = true
+is_file_route AllCookbooks = false
+is_file_route (Cookbook name) = false
+is_file_route (Version name version) = false
+is_file_route Universe = false
+is_file_route Artifacts = false
+is_file_route (Artifact name id) = false
+is_file_route (SolvedVersions environment) = false
+
+abbrev pub is_file_below : Route → Bool
+is_file_below (Organisation route) = false
+is_file_below (Objects collection route) = false
+is_file_below (Data route) = false
+is_file_below (Access route) = false
+is_file_below (Cookbooks route) = is_file_route route
+is_file_below (Policies route) = false
+is_file_below (Search route) = false
+
+-- the place is that of a file of an organisation
+abbrev pub is_file : Place → Bool
+is_file (Of org route) = is_file_below route
+is_file Organisations = false
+is_file LeftOut = false
+is_file NoRoute = false
+is_file NoMemory = false
+
+-- the form of the body that is sent to a place by a method: by PUT to a file its bytes, else JSON (RFC 8259) by POST and
+-- PUT, and else dropped
 abbrev pub form_at : Place → Verb → BodyForm
 form_at place Get = Dropped
 form_at place Post = Json
-form_at place Put = Json
+form_at place Put = cond (is_file place) Raw Json
 form_at place Delete = Dropped
 form_at place Other = Dropped
 
@@ -46,12 +80,13 @@ body_from (Ok doc) = Read (tree_of doc)
 body_from (Err NotJson) = Bad bad.NotJson
 body_from (Err TooDeep) = Bad bad.TooDeep
 body_from (Err NotWhole) = Bad bad.NotWhole
-body_from (Err NoMemory) = Bad bad.NotJson
+body_from (Err NoMemoryToRead) = Bad bad.NotJson
 
 -- a body that isn't too long, by its form
 abbrev pub short_body : BodyForm → List ℕ → Body
 short_body Dropped bytes = Empty
 short_body Json bytes = body_from (reads bytes)
+short_body Raw bytes = Sent bytes
 
 -- a body, by its form
 abbrev pub body_as : BodyForm → List ℕ → Body

@@ -14,7 +14,7 @@ use Rattle.route_table.specs.Table.{availability, path_at}
 use Rattle.route_table.specs.Verbs.{is_post}
 use Rattle.org_core.specs.declared.collections.Collection.TheVariants.{Nodes, Roles, Environments, Clients}
 use Rattle.org_core.specs.declared.requests.Body.{Body}
-use Rattle.org_core.specs.declared.requests.Body.TheVariants.{Empty, Doc as Read, Bad, TooLong}
+use Rattle.org_core.specs.declared.requests.Body.TheVariants.{Empty, Doc as Read, Bad, Raw, TooLong}
 use Rattle.org_core.specs.declared.routes.OrganisationRoute.TheVariants.{Create, Whole}
 use Rattle.org_core.specs.declared.routes.ObjectsRoute.TheVariants.{All, One}
 use Rattle.org_core.specs.declared.routes.DataRoute.TheVariants.{Bags, Bag, Item}
@@ -138,6 +138,7 @@ abbrev pub organisation_in_body : Body → Option (List ℕ)
 organisation_in_body Empty = None
 organisation_in_body (Read tree) = organisation_named (doc_of tree)
 organisation_in_body (Bad fault) = None
+organisation_in_body (Raw file) = None
 organisation_in_body TooLong = None
 
 -- the creation of the organisation that was named, if one was

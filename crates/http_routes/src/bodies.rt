@@ -1,13 +1,15 @@
 //! How the body of a request is read: by its place and its method, once its head is known.
 ghost use Rattle.doc_tree.specs.Read.{reads};
 ghost use Rattle.http_routes.specs.Bodies as spec;
-ghost use Rattle.std.specs.Prelude.{◌≡◌, IfOk};
+ghost use Rattle.http_routes.specs.declared.bodies.BodyForm.TheVariants.{Json, Raw};
+ghost use Rattle.std.specs.Prelude.{◌≡◌, IfOk, cond};
 
 use crate::places::is_creation;
-use doc_tree::{NoMemory, ReadFault, read_json};
-use org_core::{BadBody, Body, Place, Request};
+use doc_tree::{Bytes, NoMemory, ReadFault, read_json};
+use org_core::{BadBody, Body, CookbookRoute, Place, Request, Route};
 use org_machine::head_refusal;
 use route_table::Verb;
+use sandboxes::Hashed;
 use std::alloc::Global;
 
 /// The form in which the bytes of a body are read.
@@ -17,6 +19,8 @@ pub enum BodyForm {
     Dropped,
     /// They are JSON.
     Json,
+    /// They are a file.
+    Raw,
 }
 
 /// The form of the body behind a head, which is a request without a body. It is dropped where the
@@ -38,25 +42,50 @@ fn is_looked_at(head: &Request) -> bool
     is_creation(&head.place, head.verb) || head_refusal(head).is_none()
 }
 
-// The form of a body by place and method. The bytes of a file will be a form of their own, for a PUT
-// to `files`: its case stands first.
-fn form_at(_place: &Place, verb: Verb) -> BodyForm
-    ensures { result ≡ spec.form_at _place.now verb }
+// The form of a body by place and method.
+fn form_at(place: &Place, verb: Verb) -> BodyForm
+    ensures { result ≡ spec.form_at place.now verb }
 {
     match verb {
-        Verb::Post | Verb::Put => BodyForm::Json,
+        Verb::Post => BodyForm::Json,
+        Verb::Put => form_put(is_file(place)),
         Verb::Get | Verb::Delete | Verb::Other => BodyForm::Dropped,
     }
 }
 
+fn form_put(is_file: bool) -> BodyForm
+    ensures { result ≡ cond is_file Raw Json }
+{
+    if is_file {
+        BodyForm::Raw
+    } else {
+        BodyForm::Json
+    }
+}
+
+// The place is that of a file.
+fn is_file(place: &Place) -> bool
+    ensures { result ≡ spec.is_file place.now }
+{
+    matches!(
+        place,
+        Place::Of {
+            org: _,
+            route: Route::Cookbooks(CookbookRoute::File(_)),
+        }
+    )
+}
+
 /// A body of at most 4,194,304 bytes, by its form. Of a longer one the caller makes `Body::TooLong`,
-/// whatever its bytes. `Body::Bad` holds the first fault of the JSON.
-pub fn body_of(alloc: Global, form: BodyForm, bytes: &[u8]) -> Result<Body, NoMemory>
-    ensures { IfOk result (λ body. body ≡ spec.short_body form bytes.now) }
+/// whatever its bytes. `Body::Bad` holds the first fault of the JSON. The bytes of a file are moved, and
+/// hashed once.
+pub fn body_of(alloc: Global, form: BodyForm, bytes: Vec<u8>) -> Result<Body, NoMemory>
+    ensures { IfOk result (λ body. body ≡ spec.short_body form bytes.items) }
 {
     match form {
         BodyForm::Dropped => Ok(Body::Empty),
-        BodyForm::Json => body_from(alloc, bytes),
+        BodyForm::Json => body_from(alloc, bytes.as_slice()),
+        BodyForm::Raw => Ok(Body::Raw(Hashed::of(Bytes::of(bytes)))),
     }
 }
 

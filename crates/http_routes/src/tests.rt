@@ -45,9 +45,9 @@ PUT /organizations/acme/nodes/web/_acl/read {} => acme entry nodes web read buil
 GET /organizations/acme/data => acme bags built empty
 GET /organizations/acme/data/b => acme bag b built empty
 PUT /organizations/acme/data/b/i {} => acme item b i built doc
-POST /organizations/acme/sandboxes {} => acme sandboxes later empty
-PUT /organizations/acme/sandboxes/1 {} => acme sandbox 1 later empty
-PUT /organizations/acme/files/0f x => acme file 0f later empty
+POST /organizations/acme/sandboxes {} => acme sandboxes built doc
+PUT /organizations/acme/sandboxes/1 {} => acme sandbox 1 built doc
+PUT /organizations/acme/files/0f x => acme file 0f built raw
 GET /organizations/acme/cookbooks => acme cookbooks later empty
 GET /organizations/acme/cookbooks/c => acme cookbook c later empty
 GET /organizations/acme/cookbooks/c/1.0.0 => acme version c 1.0.0 later empty
@@ -188,6 +188,7 @@ fn body(body: &Body) -> &'static str {
         Body::Empty => "empty",
         Body::Doc(_) => "doc",
         Body::Bad(_) => "bad",
+        Body::Raw(_) => "raw",
         Body::TooLong => "too long",
     }
 }
@@ -207,9 +208,12 @@ fn joined(alloc: Global, words: &[&str]) -> Result<String, NoMemory> {
 // A request in words: the organisation, the route and the names in it, the mark, and the body.
 fn described(alloc: Global, request: Request) -> Result<String, NoMemory> {
     let (org, (word, first, second, third)) = place(&request.place);
-    let mark = mark(request.availability);
-    let body = body(&request.body);
-    joined(alloc, &[org, word, first, second, third, mark, body])
+    let mut told = joined(alloc, &[org, word, first, second, third])?;
+    for word in [mark(request.availability), body(&request.body)] {
+        told.push(' ')?;
+        told.push_str(word)?;
+    }
+    Ok(told)
 }
 
 // The request that parts of a message spell, in words.
@@ -224,7 +228,11 @@ fn spelled(
     let caller = HeaderValue::One(caller.as_bytes());
     let (method, target) = (line.0.as_bytes(), line.1.as_bytes());
     let head = Head::read(alloc, routes, method, target, caller, version, false)?;
-    let body = body_of(alloc, head.body_form(), body.as_bytes())?;
+    let body = body_of(
+        alloc,
+        head.body_form(),
+        Vec::from_slice(alloc, body.as_bytes())?,
+    )?;
     described(alloc, head.with_body(alloc, body)?)
 }
 

@@ -1,9 +1,8 @@
 //! The body of a message, read to its end: what is looked at is kept.
-ghost use Rattle.std.specs.Prelude.{◌≡◌, ℕ, ◌+◌, ◌-◌, ◌<◌, ◌≤◌, ◌++◌, List, [], IfOk, IfSome, OnErr, min, length, take, drop};
+ghost use Rattle.std.specs.Prelude.{◌≡◌, ℕ, ◌+◌, ◌-◌, ◌<◌, ◌≤◌, ◌++◌, List, [], IsTrue, IfOk, IfSome, OnErr, min, length, take, drop};
 ghost use Rattle.std.specs.Io.KnownBytes.{prepend_known};
 ghost use Rattle.http_routes.specs.declared.bodies.BodyForm.{BodyForm as Form};
-ghost use Rattle.http_routes.specs.declared.bodies.BodyForm.TheVariants.{Json};
-ghost use Rattle.http_wire.specs.Bodies.{IsBody};
+ghost use Rattle.http_wire.specs.Bodies.{IsBody, is_kept};
 ghost use Rattle.http_wire.specs.Room.{stream};
 ghost use Rattle.http_wire.specs.Splits.{LosesFront};
 ghost use Rattle.http_wire.specs.Faults.{OnNotAMessage, OnReadFault, HasReadCause};
@@ -72,13 +71,14 @@ fn begin(alloc: Global, form: BodyForm, size: usize) -> KeptBody
     }
     match form {
         BodyForm::Dropped => KeptBody::Skipped,
-        BodyForm::Json => kept(alloc, size),
+        BodyForm::Json | BodyForm::Raw => kept(alloc, form, size),
     }
 }
 
-fn kept(alloc: Global, size: usize) -> KeptBody
-    requires { size ≤ 4194304 }
-    ensures { IsBody Json size [] result }
+fn kept(alloc: Global, form: BodyForm, size: usize) -> KeptBody
+    requires size { size ≤ 4194304 }
+    requires kept { IsTrue (is_kept form) }
+    ensures { IsBody form size [] result }
 {
     match Vec::with_capacity(alloc, size) {
         Ok(kept) => KeptBody::Whole(kept),
@@ -101,7 +101,7 @@ impl KeptBody {
 }
 
 fn extended(mut kept: Vec<u8>, piece: &[u8]) -> KeptBody
-    ensures { (size : ℕ) → size ≤ 4194304 → IsBody Json size (kept.items ++ piece.now) result }
+    ensures { (form : Form) (size : ℕ) → size ≤ 4194304 → IsTrue (is_kept form) → IsBody form size (kept.items ++ piece.now) result }
 {
     if kept.extend_from_slice(piece).is_err() {
         return KeptBody::NoMemory;

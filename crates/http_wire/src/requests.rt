@@ -167,7 +167,7 @@ fn parsed(alloc: Global, form: BodyForm, body: KeptBody) -> Result<Body, NoMemor
     ensures { (bytes : List ℕ) → IsBody form (length bytes) bytes body → IfOk result (λ b. b ≡ body_as form bytes) }
 {
     match body {
-        KeptBody::Whole(bytes) => body_of(alloc, form, &bytes),
+        KeptBody::Whole(bytes) => body_of(alloc, form, bytes),
         KeptBody::Skipped => Ok(Body::Empty),
         KeptBody::TooLong => Ok(Body::TooLong),
         KeptBody::NoMemory => Err(NoMemory),

@@ -50,6 +50,7 @@ fn body(body: &Body) -> &'static str {
         Body::Empty => "empty",
         Body::Doc(_) => "doc",
         Body::Bad(_) => "bad",
+        Body::Raw(_) => "raw",
         Body::TooLong => "too long",
     }
 }

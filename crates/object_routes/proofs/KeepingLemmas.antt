@@ -21,7 +21,7 @@ use Rattle.object_store.specs.declared.key.Key.{Key}
 use Rattle.route_table.specs.declared.verbs.Verb.{Verb}
 use Rattle.route_table.specs.declared.verbs.Verb.TheVariants.{Get, Post, Put, Delete, Other}
 use Rattle.org_core.specs.Collections.{kind_in}
-use Rattle.org_core.specs.Contexts.{Context}
+use Rattle.org_core.specs.Contexts.{Context, in_state}
 use Rattle.org_core.specs.Conditions.{MeetsConditions}
 use Rattle.org_core.specs.Keeping.{Anyone, Someone, LeadsToConditions, KeepsConditions}
 use Rattle.org_core.specs.Moves.{after_moves}
@@ -180,21 +180,17 @@ none_removed Roles name = tt
 none_removed Environments name = tt
 none_removed Clients name = tt
 
--- the context of a request
-abbrev asking : List ℕ → Option (List ℕ) → Organisation → Context
-asking org caller o = record { org = org; caller = caller; state = Some o }
-
-created_in : (collection : Collection) (org : List ℕ) (caller : Option (List ℕ)) (o : Organisation) (name : List ℕ) (object : Doc) → MeetsConditions (Some o) → if_named (is_actor o.membership) caller ≡ true
-    → IsNamed (kind_in collection) name object → is_taken collection name (Some o) ≡ false → MeetsConditions (after_moves (creation collection (asking org caller o) name object) (Some o))
-created_in Nodes org caller o name object meets known this free =
-    create_keeps o (key kinds.Node name) object _ meets (listed_key kinds.Node name refl (λ client. refl) refl) this (created_known container.Nodes caller org o meets.1.0 known)
-created_in Roles org caller o name object meets known this free =
-    create_keeps o (key kinds.Role name) object _ meets (listed_key kinds.Role name refl (λ client. refl) refl) this (created_known container.Roles caller org o meets.1.0 known)
-created_in Environments org caller o name object meets known this free =
-    create_keeps o (key kinds.Environment name) object _ meets (listed_key kinds.Environment name refl (λ client. refl) refl) this (created_known container.Environments caller org o meets.1.0 known)
-created_in Clients org caller o name object meets known this free =
+created_in : (collection : Collection) (context : Context) (o : Organisation) (name : List ℕ) (object : Doc) → MeetsConditions (Some o) → if_named (is_actor o.membership) context.caller ≡ true
+    → IsNamed (kind_in collection) name object → is_taken collection name (Some o) ≡ false → MeetsConditions (after_moves (creation collection (in_state (Some o) context) name object) (Some o))
+created_in Nodes context o name object meets known this free =
+    create_keeps o (key kinds.Node name) object _ meets (listed_key kinds.Node name refl (λ client. refl) refl) this (created_known container.Nodes context o meets.1.0 known)
+created_in Roles context o name object meets known this free =
+    create_keeps o (key kinds.Role name) object _ meets (listed_key kinds.Role name refl (λ client. refl) refl) this (created_known container.Roles context o meets.1.0 known)
+created_in Environments context o name object meets known this free =
+    create_keeps o (key kinds.Environment name) object _ meets (listed_key kinds.Environment name refl (λ client. refl) refl) this (created_known container.Environments context o meets.1.0 known)
+created_in Clients context o name object meets known this free =
     create_client_keeps o (codes "clients") name object _ meets this this.0 (or_parts (is_actor o.membership name) (has o.objects kinds.Client name) free).0
-    (created_known container.Clients caller org o meets.1.0 known)
+    (created_known container.Clients context o meets.1.0 known)
 
 not_refused : (refusal : Refusal) (b : Bool) → refuses refusal b ≡ None → b ≡ false
 not_refused refusal true is = cc
@@ -211,38 +207,38 @@ removed_in Clients o name meets free = remove_client_keeps o name meets
 named_there : (kind : Kind) (name : List ℕ) (state : State) → lacks_named kind name state ≡ false → has_object state kind name ≡ true
 named_there kind name state found = (and_parts (is_name name) (has_object state kind name) (not_false _ found)).1
 
-objects_do : (collection : Collection) (org : List ℕ) (caller : Option (List ℕ)) (o : Organisation) (operation : ObjectsOperation) → MeetsConditions (Some o) → if_named (is_actor o.membership) caller ≡ true
-    → WasRead (kind_in collection) operation → (objects_rules collection).lacks (asking org caller o) operation ≡ false → (objects_rules collection).own_refusal (asking org caller o) operation ≡ None
-    → LeadsToConditions (Some o) ((objects_rules collection).does (asking org caller o) operation)
-objects_do collection org caller o objects.List meets known read found refused = meets
-objects_do collection org caller o (objects.Create object) meets known read found refused =
-    created_in collection org caller o (name_of object) object meets known (new_in collection object read) (not_refused AlreadyExists (is_taken collection (name_of object) (Some o)) refused)
-objects_do collection org caller o (objects.Show name) meets known read found refused = meets
-objects_do collection org caller o (objects.Replace name object) meets known read found refused =
+objects_do : (collection : Collection) (context : Context) (o : Organisation) (operation : ObjectsOperation) → MeetsConditions (Some o) → if_named (is_actor o.membership) context.caller ≡ true
+    → WasRead (kind_in collection) operation → (objects_rules collection).lacks (in_state (Some o) context) operation ≡ false → (objects_rules collection).own_refusal (in_state (Some o) context) operation ≡ None
+    → LeadsToConditions (Some o) ((objects_rules collection).does (in_state (Some o) context) operation)
+objects_do collection context o objects.List meets known read found refused = meets
+objects_do collection context o (objects.Create object) meets known read found refused =
+    created_in collection context o (name_of object) object meets known (new_in collection object read) (not_refused AlreadyExists (is_taken collection (name_of object) (Some o)) refused)
+objects_do collection context o (objects.Show name) meets known read found refused = meets
+objects_do collection context o (objects.Replace name object) meets known read found refused =
     replace_keeps o (key (kind_in collection) name) object meets (named_there (kind_in collection) name (Some o) found)
     (stored_in collection name object (again_in collection name object read.0 read.1)) (λ bag id named same. absurd (no_item_in collection name (item_name bag id) same))
-objects_do collection org caller o (objects.Remove name) meets known read found refused =
+objects_do collection context o (objects.Remove name) meets known read found refused =
     removed_in collection o name meets (not_refused NotAllowed (is_fixed collection name) refused)
 
 -- nothing is done to an organisation that isn't there
-objects_undone : (collection : Collection) (org : List ℕ) (caller : Option (List ℕ)) (operation : ObjectsOperation)
-    → LeadsToConditions None ((objects_rules collection).does (record { org = org; caller = caller; state = None }) operation)
-objects_undone collection org caller objects.List = tt
-objects_undone collection org caller (objects.Create object) = none_created collection (record { org = org; caller = caller; state = None }) (name_of object) object
-objects_undone collection org caller (objects.Show name) = tt
-objects_undone collection org caller (objects.Replace name object) = tt
-objects_undone collection org caller (objects.Remove name) = none_removed collection name
+objects_undone : (collection : Collection) (context : Context) (operation : ObjectsOperation)
+    → LeadsToConditions None ((objects_rules collection).does (in_state None context) operation)
+objects_undone collection context objects.List = tt
+objects_undone collection context (objects.Create object) = none_created collection (in_state None context) (name_of object) object
+objects_undone collection context (objects.Show name) = tt
+objects_undone collection context (objects.Replace name object) = tt
+objects_undone collection context (objects.Remove name) = none_removed collection name
 
-objects_in : (collection : Collection) (org : List ℕ) (caller : Option (List ℕ)) (state : State) (operation : ObjectsOperation) → MeetsConditions state → if_named (is_actor (membership_of state)) caller ≡ true
-    → WasRead (kind_in collection) operation → (objects_rules collection).lacks (record { org = org; caller = caller; state = state }) operation ≡ false
-    → (objects_rules collection).own_refusal (record { org = org; caller = caller; state = state }) operation ≡ None
-    → LeadsToConditions state ((objects_rules collection).does (record { org = org; caller = caller; state = state }) operation)
-objects_in collection org caller None operation meets known read found refused = objects_undone collection org caller operation
-objects_in collection org caller (Some o) operation meets known read found refused = objects_do collection org caller o operation meets known read found refused
+objects_in : (collection : Collection) (context : Context) (state : State) (operation : ObjectsOperation) → MeetsConditions state → if_named (is_actor (membership_of state)) context.caller ≡ true
+    → WasRead (kind_in collection) operation → (objects_rules collection).lacks (in_state state context) operation ≡ false
+    → (objects_rules collection).own_refusal (in_state state context) operation ≡ None
+    → LeadsToConditions state ((objects_rules collection).does (in_state state context) operation)
+objects_in collection context None operation meets known read found refused = objects_undone collection context operation
+objects_in collection context (Some o) operation meets known read found refused = objects_do collection context o operation meets known read found refused
 
 pub objects_keep : (collection : Collection) → KeepsConditions Someone (objects_rules collection)
 objects_keep collection context route request operation meets known asked found refused =
-    objects_in collection context.org context.caller context.state operation meets known (asked_read collection route request.verb request.body operation asked) found refused
+    objects_in collection context context.state operation meets known (asked_read collection route request.verb request.body operation asked) found refused
 
 -- ---- data bags and their items
 
@@ -328,38 +324,38 @@ item_found bag id state found =
     let parts = and_parts (is_name bag && is_name id) (has_object state kinds.Bag bag && has_object state kinds.Item (item_name bag id)) (not_false _ found) in
     ((and_parts (is_name bag) (is_name id) parts.0).0, (and_parts (has_object state kinds.Bag bag) (has_object state kinds.Item (item_name bag id)) parts.1).0)
 
-data_do : (org : List ℕ) (caller : Option (List ℕ)) (o : Organisation) (operation : DataOperation) → MeetsConditions (Some o) → if_named (is_actor o.membership) caller ≡ true → DataWasRead operation
-    → data_rules.lacks (asking org caller o) operation ≡ false → LeadsToConditions (Some o) (data_rules.does (asking org caller o) operation)
-data_do org caller o bags.ListBags meets known read found = meets
-data_do org caller o (bags.CreateBag object) meets known read found =
+data_do : (context : Context) (o : Organisation) (operation : DataOperation) → MeetsConditions (Some o) → if_named (is_actor o.membership) context.caller ≡ true → DataWasRead operation
+    → data_rules.lacks (in_state (Some o) context) operation ≡ false → LeadsToConditions (Some o) (data_rules.does (in_state (Some o) context) operation)
+data_do context o bags.ListBags meets known read found = meets
+data_do context o (bags.CreateBag object) meets known read found =
     create_keeps o (key kinds.Bag (name_of object)) object _ meets (listed_key kinds.Bag (name_of object) refl (λ client. refl) refl) (named_new kinds.Bag object refl refl read)
-    (created_known container.Data caller org o meets.1.0 known)
-data_do org caller o (bags.ListItems bag) meets known read found = meets
-data_do org caller o (bags.CreateItem bag item) meets known read found =
+    (created_known container.Data context o meets.1.0 known)
+data_do context o (bags.ListItems bag) meets known read found = meets
+data_do context o (bags.CreateItem bag item) meets known read found =
     let there = bag_found bag (Some o) found in
     item_put_in o bag (id_of item) item meets there.0 there.1 (new_item bag item there.0 read)
-data_do org caller o (bags.RemoveBag bag) meets known read found = remove_bag_keeps (Some o) bag meets
-data_do org caller o (bags.ShowItem bag id) meets known read found = meets
-data_do org caller o (bags.ReplaceItem bag id item) meets known read found =
+data_do context o (bags.RemoveBag bag) meets known read found = remove_bag_keeps (Some o) bag meets
+data_do context o (bags.ShowItem bag id) meets known read found = meets
+data_do context o (bags.ReplaceItem bag id item) meets known read found =
     let there = item_found bag id (Some o) found in
     item_put_in o bag id item meets there.0 there.1 (item_again bag id item there.0 read.0 read.1)
-data_do org caller o (bags.RemoveItem bag id) meets known read found = remove_item_keeps o (item_name bag id) meets
+data_do context o (bags.RemoveItem bag id) meets known read found = remove_item_keeps o (item_name bag id) meets
 
-data_undone : (org : List ℕ) (caller : Option (List ℕ)) (operation : DataOperation) → LeadsToConditions None (data_rules.does (record { org = org; caller = caller; state = None }) operation)
-data_undone org caller bags.ListBags = tt
-data_undone org caller (bags.CreateBag object) = tt
-data_undone org caller (bags.ListItems bag) = tt
-data_undone org caller (bags.CreateItem bag item) = tt
-data_undone org caller (bags.RemoveBag bag) = remove_bag_keeps None bag tt
-data_undone org caller (bags.ShowItem bag id) = tt
-data_undone org caller (bags.ReplaceItem bag id item) = tt
-data_undone org caller (bags.RemoveItem bag id) = tt
+data_undone : (context : Context) (operation : DataOperation) → LeadsToConditions None (data_rules.does (in_state None context) operation)
+data_undone context bags.ListBags = tt
+data_undone context (bags.CreateBag object) = tt
+data_undone context (bags.ListItems bag) = tt
+data_undone context (bags.CreateItem bag item) = tt
+data_undone context (bags.RemoveBag bag) = remove_bag_keeps None bag tt
+data_undone context (bags.ShowItem bag id) = tt
+data_undone context (bags.ReplaceItem bag id item) = tt
+data_undone context (bags.RemoveItem bag id) = tt
 
-data_in : (org : List ℕ) (caller : Option (List ℕ)) (state : State) (operation : DataOperation) → MeetsConditions state → if_named (is_actor (membership_of state)) caller ≡ true → DataWasRead operation
-    → data_rules.lacks (record { org = org; caller = caller; state = state }) operation ≡ false → LeadsToConditions state (data_rules.does (record { org = org; caller = caller; state = state }) operation)
-data_in org caller None operation meets known read found = data_undone org caller operation
-data_in org caller (Some o) operation meets known read found = data_do org caller o operation meets known read found
+data_in : (context : Context) (state : State) (operation : DataOperation) → MeetsConditions state → if_named (is_actor (membership_of state)) context.caller ≡ true → DataWasRead operation
+    → data_rules.lacks (in_state state context) operation ≡ false → LeadsToConditions state (data_rules.does (in_state state context) operation)
+data_in context None operation meets known read found = data_undone context operation
+data_in context (Some o) operation meets known read found = data_do context o operation meets known read found
 
 pub data_keep : KeepsConditions Someone data_rules
 data_keep context route request operation meets known asked found refused =
-    data_in context.org context.caller context.state operation meets known (data_read route request.verb request.body operation asked) found
+    data_in context context.state operation meets known (data_read route request.verb request.body operation asked) found

@@ -8,7 +8,7 @@ use Rattle.access_lists.specs.declared.member_kind.MemberKind.{MemberKind}
 use Rattle.access_lists.specs.declared.member_kind.MemberKind.TheVariants as member
 use Rattle.access_lists.specs.declared.perm.Perm.{Perm}
 use Rattle.access_lists.specs.Acls.{entry_of, each_entry, without_actor, without_group}
-use Rattle.access_lists.specs.Changes.{left, with_user, without_user, with_client, without_client}
+use Rattle.access_lists.specs.Changes.{with_user, without_user, with_client, without_client}
 use Rattle.access_lists.specs.MapValues.{map_values}
 use Rattle.access_lists.specs.Members.{Members, GroupsByName, Membership}
 use Rattle.access_lists.specs.Starting.{no_members, is_starting_group}

@@ -18,12 +18,13 @@ use Rattle.object_store.specs.Items.{item_name, ids_in}
 use Rattle.object_store.specs.Objects.{Objects, key, key_cmp}
 use Rattle.object_store.specs.declared.key.Key.{Key}
 use Rattle.org_core.proofs.ListedLemmas.{NamesKnown, has_own_list, known_grows, left-at, list_known, objects_alone, put-at, put_list, put_with_list, take_with_list, with_known}
-use Rattle.org_core.proofs.MembershipLemmas.{Comes, comes_client, contains-left, contains-put}
+use Rattle.org_core.proofs.MembershipLemmas.{comes_client, contains-left, contains-put}
 use Rattle.org_core.proofs.AccessConditionsLemmas as lemmas
 use Rattle.org_core.proofs.ObjectConditionsLemmas.{items_taken_out, keeps_bag_removal, keeps_first, keeps_put, keeps_take_out, nobody_taken_out, same_keys, without_items}
 use Rattle.org_core.proofs.StartingConditionsLemmas.{key_named, started, starting_known, starts, starts_without_clients}
 use Rattle.org_core.specs.AccessConditions.{AccessConditions, HasItsClients, has_member}
 use Rattle.org_core.specs.Conditions.{MeetsConditions}
+use Rattle.org_core.specs.Contexts.{Context, in_state}
 use Rattle.org_core.specs.Creating.{container_list, created_list, with_creator}
 use Rattle.org_core.specs.Moves.{after_moves, joins, with_objects}
 use Rattle.org_core.specs.Needs.{if_named}
@@ -47,9 +48,9 @@ creator_known m None list known is = cc
 creator_known m (Some name) list known is = with_known m name list known is
 
 -- everyone whom the list of a new object names is there
-pub created_known : (container : Container) (caller : Option (List ℕ)) (org : List ℕ) (o : Organisation) → AccessConditions o → if_named (membership.is_actor o.membership) caller ≡ true
-    → NamesKnown o.membership (created_list container (record { org = org; caller = caller; state = Some o }))
-created_known container caller org o meets is = creator_known o.membership caller (container_list container (Some o)) (container_known container o meets) is
+pub created_known : (container : Container) (context : Context) (o : Organisation) → AccessConditions o → if_named (membership.is_actor o.membership) context.caller ≡ true
+    → NamesKnown o.membership (created_list container (in_state (Some o) context))
+created_known container context o meets is = creator_known o.membership context.caller (container_list container (Some o)) (container_known container o meets) is
 
 -- ---- clients
 

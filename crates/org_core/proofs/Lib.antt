@@ -5,6 +5,8 @@ pub mod ListedLemmas
 pub mod AccessConditionsLemmas
 pub mod StartingConditionsLemmas
 pub mod ConditionsLemmas
+pub mod FileLemmas
+pub mod JoinLemmas
 pub mod ListingLemmas
 pub mod MovesLemmas
 pub mod PlainLemmas

@@ -10,7 +10,7 @@ use Rattle.org_core.specs.declared.refusals.Refusal.{Refusal}
 use Rattle.org_core.specs.declared.requests.BadBody.{BadBody}
 use Rattle.org_core.specs.declared.requests.BadBody.TheVariants as bad
 use Rattle.org_core.specs.declared.requests.Body.{Body}
-use Rattle.org_core.specs.declared.requests.Body.TheVariants.{Empty, Doc as Read, Bad, TooLong}
+use Rattle.org_core.specs.declared.requests.Body.TheVariants.{Empty, Doc as Read, Bad, Raw, TooLong}
 
 unreadable_plain : (fault : BadBody) → IsPlain (unreadable fault)
 unreadable_plain bad.NotJson = tt
@@ -21,6 +21,7 @@ pub document_plain : (body : Body) → RefusesPlainly (document_in body)
 document_plain Empty = tt
 document_plain (Read tree) = tt
 document_plain (Bad fault) = unreadable_plain fault
+document_plain (Raw file) = tt
 document_plain TooLong = tt
 
 or_bad_field_plain : (read : Result Doc (List ℕ)) → RefusesPlainly (or_bad_field read)

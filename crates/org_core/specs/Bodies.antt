@@ -7,7 +7,7 @@ use Rattle.doc_tree.specs.Tree.{doc_of}
 use Rattle.org_core.specs.declared.requests.BadBody.{BadBody}
 use Rattle.org_core.specs.declared.requests.BadBody.TheVariants as bad
 use Rattle.org_core.specs.declared.requests.Body.{Body}
-use Rattle.org_core.specs.declared.requests.Body.TheVariants.{Empty, Doc as Read, Bad, TooLong}
+use Rattle.org_core.specs.declared.requests.Body.TheVariants.{Empty, Doc as Read, Bad, Raw, TooLong}
 use Rattle.org_core.specs.declared.refusals.Refusal.{Refusal}
 use Rattle.org_core.specs.declared.refusals.Refusal.TheVariants.{NotJson, TooDeep, NotWhole, TooLarge, BadField, NotFound}
 
@@ -16,6 +16,7 @@ abbrev pub is_too_long : Body → Bool
 is_too_long Empty = false
 is_too_long (Read tree) = false
 is_too_long (Bad fault) = false
+is_too_long (Raw file) = false
 is_too_long TooLong = true
 
 -- the refusal of bytes that aren't read as JSON
@@ -29,6 +30,7 @@ abbrev pub document_in : Body → Result Doc Refusal
 document_in Empty = Err NotJson
 document_in (Read tree) = Ok (doc_of tree)
 document_in (Bad fault) = Err (unreadable fault)
+document_in (Raw file) = Err NotJson
 document_in TooLong = Err TooLarge
 
 -- what was read, or the first bad field

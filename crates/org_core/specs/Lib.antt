@@ -6,7 +6,10 @@ pub mod States
 pub mod Comers
 pub mod Stored
 pub mod Named
+pub mod FullStates
 pub mod Moves
+pub mod FileMoves
+pub mod Rooms
 pub mod Bodies
 pub mod Contexts
 pub mod Needs

@@ -9,10 +9,10 @@ use Rattle.access_lists.specs.MapValues.{map_values}
 use Rattle.access_lists.specs.Members.{Membership}
 use Rattle.access_lists.specs.Rooms as groups
 use Rattle.access_lists.specs.Strangers as membership
-use Rattle.object_store.specs.Objects.{Objects, Lists, Store}
+use Rattle.object_store.specs.Objects.{Objects, Lists}
 use Rattle.org_core.specs.declared.moves.Move.{Move}
-use Rattle.org_core.specs.declared.moves.Move.TheVariants.{Open, Put, TakeOut, PutList, TakeList, AddUser, RemoveUser, AddClient, RemoveClient, PutGroup, RemoveGroup}
-use Rattle.org_core.specs.States.{State, Organisation, nothing, room_for}
+use Rattle.org_core.specs.declared.moves.Move.TheVariants.{Open, Put, TakeOut, PutList, TakeList, AddUser, RemoveUser, AddClient, RemoveClient, PutGroup, RemoveGroup, OnFiles}
+use Rattle.org_core.specs.States.{State, Organisation, nothing}
 
 -- an organisation with other objects
 abbrev pub with_objects : Objects → Organisation → Organisation
@@ -56,6 +56,7 @@ within (RemoveClient name) o = with_membership (leaves kind.Client name (without
 within (PutGroup name members) o = with_membership (with_groups (map.insert o.membership.groups name members) o.membership) o
 within (RemoveGroup name) o =
     with_membership (leaves kind.Group name (with_groups (map.remove o.membership.groups name) o.membership)) (with_lists (lists_without_group name o.lists) o)
+within (OnFiles move) o = o
 
 -- the move makes an organisation of none
 abbrev pub opens : Move → Bool
@@ -70,6 +71,7 @@ opens (AddClient comer) = false
 opens (RemoveClient name) = false
 opens (PutGroup name members) = false
 opens (RemoveGroup name) = false
+opens (OnFiles move) = false
 
 -- what a move makes of no organisation: only `Open` makes one
 abbrev pub outside : Bool → State
@@ -99,6 +101,7 @@ takes_room (AddClient comer) = true
 takes_room (RemoveClient name) = false
 takes_room (PutGroup name members) = true
 takes_room (RemoveGroup name) = false
+takes_room (OnFiles move) = false
 
 -- how many of the moves take room
 abbrev pub puts_in : List Move → ℕ
@@ -117,6 +120,7 @@ group_joined (AddClient comer) = Some comer.group
 group_joined (RemoveClient name) = None
 group_joined (PutGroup name members) = None
 group_joined (RemoveGroup name) = None
+group_joined (OnFiles move) = None
 
 -- how many users and clients come
 abbrev pub arrivals : List Move → ℕ
@@ -135,9 +139,3 @@ HasPlace (Some group) kept = IsTrue (membership.has kept.membership kind.Group g
 abbrev pub HasPlaceFirst : List Move → groups.Kept → Type 0
 HasPlaceFirst [] kept = Unit {0}
 HasPlaceFirst (move ∷ rest) kept = HasPlace (group_joined move) kept
-
--- these moves can be made without memory
-pub record HasRoom (moves : List Move) (store : Store) (members : groups.Kept) : Type 0 where
-  pub room : puts_in moves ≤ room_for store members
-  pub orderly : IsOrderly moves
-  pub place : HasPlaceFirst moves members

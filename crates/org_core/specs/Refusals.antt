@@ -1,9 +1,10 @@
 -- What each refusal is answered with, and the first of several refusals.
+use Rattle.std.specs.List.{join_by}
 use Rattle.std.specs.Prelude.{◌≡◌, Bool, cond, ℕ, List, [], ◌∷◌, ◌++◌, Option, Some, None, Result, Ok, Err, codes}
 use Rattle.doc_tree.specs.Doc.{Doc, words, list, no_docs, then_doc}
 use Rattle.access_lists.specs.Acls.{word_of}
 use Rattle.org_core.specs.declared.refusals.Refusal.{Refusal}
-use Rattle.org_core.specs.declared.refusals.Refusal.TheVariants.{TooLarge, VersionNotTaken, NotImplemented, NotFound, NotAllowed, UnknownCaller, NotJson, TooDeep, NotWhole, BadField, Forbidden, AlreadyExists}
+use Rattle.org_core.specs.declared.refusals.Refusal.TheVariants.{TooLarge, VersionNotTaken, NotImplemented, NotFound, NotAllowed, UnknownCaller, NotJson, TooDeep, NotWhole, BadField, Forbidden, AlreadyExists, MissingChecksums, DigestDiffers, SandboxesAtEnd}
 use Rattle.org_core.specs.declared.refusals.Stop.{Stop}
 use Rattle.org_core.specs.declared.refusals.Stop.TheVariants.{Refused, NoMemory}
 use Rattle.org_core.specs.declared.replies.Reply.{Reply}
@@ -23,6 +24,9 @@ status_of NotWhole = 400
 status_of (BadField field) = 400
 status_of (Forbidden permission) = 403
 status_of AlreadyExists = 409
+status_of (MissingChecksums sums) = 400
+status_of (DigestDiffers found asked) = 400
+status_of SandboxesAtEnd = 409
 
 -- the words of a refusal
 abbrev pub words_of : Refusal → List ℕ
@@ -38,6 +42,9 @@ words_of NotWhole = codes "number is not whole"
 words_of (BadField field) = codes "bad field " ++ field
 words_of (Forbidden permission) = codes "missing " ++ (word_of permission ++ codes " permission")
 words_of AlreadyExists = codes "already exists"
+words_of (MissingChecksums sums) = codes "missing checksums: " ++ join_by (λ sum. sum) (codes ", ") sums
+words_of (DigestDiffers found asked) = codes "digest is " ++ (found ++ (codes ", not " ++ asked))
+words_of SandboxesAtEnd = codes "sandbox count is at its end"
 
 -- {"error":["WORDS"]}
 abbrev pub error_body : List ℕ → Doc

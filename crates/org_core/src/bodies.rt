@@ -15,14 +15,15 @@ use doc_tree::{Kind, Name, Text, Tree};
 use object_forms::{FormFault, read_object};
 use std::alloc::Global;
 
-/// The tree of a body; or 400, by the fault of its text, also of a body that is missing; or 413.
+/// The tree of a body; or 400, by the fault of its text, also of a body that is missing or
+/// wasn't read as text; or 413.
 pub fn document_in(body: &Body) -> Result<&Tree, Refusal>
     ensures { result_map_both (λ t. doc_of t.now) (λ refusal. refusal) result ≡ spec.document_in body.now }
 {
     match body {
         Body::Doc(tree) => Ok(tree),
         Body::Bad(fault) => Err(unreadable(*fault)),
-        Body::Empty => Err(Refusal::NotJson),
+        Body::Empty | Body::Raw(_) => Err(Refusal::NotJson),
         Body::TooLong => Err(Refusal::TooLarge),
     }
 }

@@ -5,8 +5,10 @@ ghost use Rattle.org_core.specs.Requests as requests;
 
 use crate::org_state::OrgState;
 use doc_tree::Text;
+use sandboxes::Files;
 
-/// The organisation's name, the caller, and the organisation's state: every part of a rule sees them.
+/// The organisation's name, the caller, the organisation's state and its files: every part of a rule sees
+/// them.
 #[derive(Clone, Copy)]
 pub struct Context<'c> {
     /// The organisation's name.
@@ -15,6 +17,8 @@ pub struct Context<'c> {
     pub caller: &'c Option<Text>,
     /// The organisation's state.
     pub state: &'c OrgState,
+    /// The files of all organisations, of which contracts see those of this one.
+    pub files: &'c Files,
 }
 
 /// What finds the objects that a query matches. No operation searches yet, so it has no calls.
@@ -26,8 +30,8 @@ pub struct NoFinder;
 
 impl Finder for NoFinder {}
 
-/// All that an operation is lent beside its context: the finder today, and an organisation's files and
-/// the hint of a solution as they are built. No group names what it doesn't use.
+/// All that an operation is lent beside its context: the finder today, and the hint of a
+/// solution as it is built. No group names what it doesn't use.
 #[derive(Drop)]
 pub struct Lent<'l, F: Finder> {
     /// What finds objects.

@@ -7,6 +7,7 @@ mod collections;
 mod comers;
 mod contexts;
 mod creating;
+mod file_moves;
 mod group_members;
 mod groups;
 mod moves;
@@ -26,13 +27,16 @@ pub use collections::Collection;
 pub use comers::Comer;
 pub use contexts::{Context, Finder, Lent, NoFinder, is_operator};
 pub use creating::{add_with_list, create_by, created_list};
+pub use file_moves::{FileMove, is_complete};
 pub use group_members::GroupMembers;
 pub use groups::{Group, Prepared};
 pub use moves::{Move, Moves, one_move};
 pub use needs::{Need, Needs, first_lacking, is_known, key_of, listed_need};
 pub use org_state::OrgState;
 pub use refusals::{Refusal, Stop, out_of_memory};
-pub use replies::{ORGANISATIONS, Reply, created, joined, org_uri, shown, shown_key, shown_paths};
+pub use replies::{
+    ORGANISATIONS, Reply, created, given, joined, made, org_uri, shown, shown_key, shown_paths,
+};
 pub use requests::{BadBody, Body, Parameter, Parameters, Place, Request};
 pub use routes::{
     AccessRoute, CookbookRoute, DataRoute, ObjectsRoute, OrganisationRoute, PolicyRoute, Route,

@@ -1,9 +1,11 @@
 //! The moves that change an organisation's state.
 
 ghost use Rattle.std.specs.Prelude.{◌≡◌, [], ◌∷◌, IfOk, option_copied};
+ghost use Rattle.org_core.specs.FileMoves as files;
 ghost use Rattle.org_core.specs.Moves as spec;
 
 use crate::comers::Comer;
+use crate::file_moves::FileMove;
 use crate::group_members::GroupMembers;
 use crate::stored::Stored;
 use access_lists::Acl;
@@ -37,6 +39,8 @@ pub enum Move {
     PutGroup(Text, GroupMembers),
     /// A group goes, out of every other group and every access list too.
     RemoveGroup(Text),
+    /// The files and sandboxes of an organisation that is there change.
+    OnFiles(FileMove),
 }
 
 /// Moves, in the order in which they are made.
@@ -59,6 +63,28 @@ impl Move {
             | Move::TakeList(_)
             | Move::RemoveUser(_)
             | Move::RemoveClient(_)
+            | Move::RemoveGroup(_)
+            | Move::OnFiles(_) => false,
+        }
+    }
+
+    /// Whether it puts a file or a sandbox in, which takes room among the files.
+    #[tactic(auto, unfolding(crate::specs::FileMoves::takes_file_room))]
+    pub(crate) fn takes_file_room(&self) -> bool
+        ensures { result ≡ files.takes_file_room self.now }
+    {
+        match self {
+            Move::OnFiles(one) => one.puts_in_files(),
+            Move::Open
+            | Move::Put(_, _)
+            | Move::TakeOut(_)
+            | Move::PutList(_, _)
+            | Move::TakeList(_)
+            | Move::AddUser(_)
+            | Move::RemoveUser(_)
+            | Move::AddClient(_)
+            | Move::RemoveClient(_)
+            | Move::PutGroup(_, _)
             | Move::RemoveGroup(_) => false,
         }
     }
@@ -77,7 +103,8 @@ impl Move {
             | Move::RemoveUser(_)
             | Move::RemoveClient(_)
             | Move::PutGroup(_, _)
-            | Move::RemoveGroup(_) => None,
+            | Move::RemoveGroup(_)
+            | Move::OnFiles(_) => None,
         }
     }
 }
@@ -89,6 +116,19 @@ pub fn puts_in(moves: &[Move]) -> usize
     let mut count = 0;
     for one in moves {
         if one.takes_room() {
+            count += 1;
+        }
+    }
+    count
+}
+
+/// How many of the moves put a file or a sandbox in.
+pub(crate) fn files_put_in(moves: &[Move]) -> usize
+    ensures { result ≡ files.files_put_in moves.now }
+{
+    let mut count = 0;
+    for one in moves {
+        if one.takes_file_room() {
             count += 1;
         }
     }

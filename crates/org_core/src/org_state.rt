@@ -10,13 +10,18 @@ ghost use Rattle.org_core.specs.Conditions.{MeetsConditions};
 ghost use Rattle.std.specs.FinMap as finite;
 ghost use Rattle.access_lists.specs.Changes.{with_client, with_groups, with_user, without_client, without_user};
 ghost use Rattle.org_core.specs.States.{state_in, state_from, objects_of, object_in, has_object, list_in, membership_of, room_for, IsNobody};
-ghost use Rattle.org_core.specs.Moves.{opens as spec_opens, HasPlace, HasPlaceFirst, HasRoom, IsOrderly, after_move, after_moves, group_joined, joins, leaves, lists_without_actor, lists_without_group, takes_room};
+ghost use Rattle.org_core.specs.FileMoves.{files_after, files_after_move, files_put_in as spec_files_put_in, takes_file_room};
+ghost use Rattle.org_core.specs.Rooms.{HasRoom};
+ghost use Rattle.sandboxes.specs.Files.{holding_of, spare_of, OthersStay};
+ghost use Rattle.org_core.specs.Moves.{opens as spec_opens, HasPlace, HasPlaceFirst, IsOrderly, after_move, after_moves, group_joined, joins, leaves, lists_without_actor, lists_without_group, takes_room};
 
 use crate::comers::Comer;
-use crate::moves::{Move, Moves, puts_in};
+use crate::file_moves::make_on_files;
+use crate::moves::{Move, Moves, files_put_in, puts_in};
 use access_lists::{Acl, Groups, MemberKind};
 use doc_tree::{Kind, NoMemory, Steps, Text, Texts, Tree};
 use object_store::{Key, Objects};
+use sandboxes::Files;
 use std::alloc::Global;
 use std::hash::RandomState;
 use std::marker::Model;
@@ -164,28 +169,45 @@ impl OrgState {
         let _ = &self.there;
     }
 
-    /// Makes room for moves, of which none but the first brings somebody.
-    pub fn reserve(&mut self, moves: &Moves) -> Result<(), NoMemory>
+    /// Makes room for moves, of which none but the first brings somebody, here and among the files.
+    pub fn reserve(
+        &mut self,
+        alloc: Global,
+        files: &mut Files,
+        moves: &Moves,
+    ) -> Result<(), NoMemory>
         requires { IsOrderly moves.now }
         ensures name { self.new.name ≡ self.old.name }
         ensures state { state_in self.new ≡ state_in self.old }
-        ensures room { OnOk result (HasRoom moves.now self.new.objects self.new.groups) }
+        ensures files { holding_of files.new self.old.name ≡ holding_of files.old self.old.name }
+        ensures others { OthersStay self.old.name files.old files.new }
+        ensures room { OnOk result (HasRoom moves.now self.new.objects self.new.groups (spare_of files.new self.new.name)) }
     {
         let count = puts_in(moves.as_slice());
         self.objects.reserve(count)?;
         self.groups.reserve(count)?;
-        make_place_first(&mut self.groups, moves.as_slice())
+        make_place_first(&mut self.groups, moves.as_slice())?;
+        reserve_files(alloc, files, &self.org, files_put_in(moves.as_slice()))
     }
 
     /// Makes moves for which there is room, in order. They lead to a state that meets the conditions.
-    /// It takes no memory.
-    pub fn make_all(&mut self, moves: Moves)
-        requires room { HasRoom moves self.old.objects self.old.groups }
+    /// The files of other organisations stay as they are. It takes no memory.
+    pub fn make_all(&mut self, files: &mut Files, moves: Moves)
+        requires room { HasRoom moves self.old.objects self.old.groups (spare_of files.old self.old.name) }
         requires conditions { MeetsConditions (after_moves moves (state_in self.old)) }
         ensures name { self.new.name ≡ self.old.name }
         ensures state { state_in self.new ≡ after_moves moves (state_in self.old) }
+        ensures files { holding_of files.new self.old.name ≡ files_after self.old.name moves (state_in self.old) (holding_of files.old self.old.name) }
+        ensures others { OthersStay self.old.name files.old files.new }
     {
-        make_all(&mut self.there, &mut self.objects, &mut self.groups, moves);
+        make_all(
+            &self.org,
+            &mut self.there,
+            &mut self.objects,
+            &mut self.groups,
+            files,
+            moves,
+        );
     }
 }
 
@@ -212,29 +234,61 @@ fn make_place(groups: &mut Groups, group: Option<&Text>) -> Result<(), NoMemory>
     }
 }
 
+// Makes room for so many more files and sandboxes, if any.
+fn reserve_files(alloc: Global, files: &mut Files, org: &Text, count: usize) -> Result<(), NoMemory>
+    ensures holding { holding_of files.new org.now ≡ holding_of files.old org.now }
+    ensures spare { OnOk result (count ≤ spare_of files.new org.now) }
+    ensures others { OthersStay org.now files.old files.new }
+{
+    if count == 0 {
+        return Ok(());
+    }
+    files.reserve(alloc, org, count)
+}
+
 // Makes moves in order. Between two of them the conditions needn't hold.
-pub(crate) fn make_all(there: &mut bool, objects: &mut Objects, groups: &mut Groups, moves: Moves)
-    requires room { HasRoom moves objects.old groups.old }
+pub(crate) fn make_all(
+    org: &Text,
+    there: &mut bool,
+    objects: &mut Objects,
+    groups: &mut Groups,
+    files: &mut Files,
+    moves: Moves,
+)
+    requires room { HasRoom moves objects.old groups.old (spare_of files.old org.now) }
     requires nobody { IsNobody there.old objects.old groups.old }
     ensures state { state_from there.new objects.new groups.new ≡ after_moves moves (state_from there.old objects.old groups.old) }
     ensures nobody { IsNobody there.new objects.new groups.new }
+    ensures files { holding_of files.new org.now ≡ files_after org.now moves (state_from there.old objects.old groups.old) (holding_of files.old org.now) }
+    ensures others { OthersStay org.now files.old files.new }
 {
     for one in moves.into_vec() {
-        make(there, objects, groups, one);
+        make(org, there, objects, groups, files, one);
     }
 }
 
-#[tactic(auto, unfolding(crate::specs::Moves::takes_room))]
-fn make(there: &mut bool, objects: &mut Objects, groups: &mut Groups, one: Move)
+#[tactic(auto, unfolding(crate::specs::Moves::takes_room, crate::specs::FileMoves::takes_file_room))]
+fn make(
+    org: &Text,
+    there: &mut bool,
+    objects: &mut Objects,
+    groups: &mut Groups,
+    files: &mut Files,
+    one: Move,
+)
     requires room { cond (takes_room one) 1 0 ≤ room_for objects.old groups.old }
     requires place { HasPlace (group_joined one) groups.old }
     requires nobody { IsNobody there.old objects.old groups.old }
+    requires spare { cond (takes_file_room one) 1 0 ≤ spare_of files.old org.now }
     ensures state { state_from there.new objects.new groups.new ≡ after_move one (state_from there.old objects.old groups.old) }
     ensures room { room_for objects.old groups.old ≤ room_for objects.new groups.new + cond (takes_room one) 1 0 }
     ensures nobody { IsNobody there.new objects.new groups.new }
+    ensures files { holding_of files.new org.now ≡ files_after_move org.now one (state_from there.old objects.old groups.old) (holding_of files.old org.now) }
+    ensures spare { spare_of files.old org.now ≤ spare_of files.new org.now + cond (takes_file_room one) 1 0 }
+    ensures others { OthersStay org.now files.old files.new }
 {
     if *there {
-        make_there(objects, groups, one);
+        make_there(org, objects, groups, files, one);
     } else {
         *there = opens(one);
     }
@@ -248,12 +302,16 @@ fn opens(one: Move) -> bool
 }
 
 // The move is made of an organisation that is there.
-#[tactic(auto, unfolding(crate::specs::Moves::takes_room))]
-fn make_there(objects: &mut Objects, groups: &mut Groups, one: Move)
+#[tactic(auto, unfolding(crate::specs::Moves::takes_room, crate::specs::FileMoves::takes_file_room))]
+fn make_there(org: &Text, objects: &mut Objects, groups: &mut Groups, files: &mut Files, one: Move)
     requires room { cond (takes_room one) 1 0 ≤ room_for objects.old groups.old }
     requires place { HasPlace (group_joined one) groups.old }
+    requires spare { cond (takes_file_room one) 1 0 ≤ spare_of files.old org.now }
     ensures state { state_from true objects.new groups.new ≡ after_move one (state_from true objects.old groups.old) }
     ensures room { room_for objects.old groups.old ≤ room_for objects.new groups.new + cond (takes_room one) 1 0 }
+    ensures files { holding_of files.new org.now ≡ files_after_move org.now one (state_from true objects.old groups.old) (holding_of files.old org.now) }
+    ensures spare { spare_of files.old org.now ≤ spare_of files.new org.now + cond (takes_file_room one) 1 0 }
+    ensures others { OthersStay org.now files.old files.new }
 {
     match one {
         Move::Open => {}
@@ -267,6 +325,7 @@ fn make_there(objects: &mut Objects, groups: &mut Groups, one: Move)
         Move::RemoveClient(name) => remove_client(objects, groups, &name),
         Move::PutGroup(name, members) => groups.put_group(name, members.into_group()),
         Move::RemoveGroup(name) => remove_group(objects, groups, &name),
+        Move::OnFiles(one) => make_on_files(files, org, one),
     }
 }
 

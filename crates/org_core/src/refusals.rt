@@ -1,12 +1,15 @@
 //! The refusals of a request: the status and the text that each is answered with.
 
-ghost use Rattle.std.specs.Prelude.{◌≡◌, IfOk, false};
+ghost use Rattle.std.specs.Prelude.{◌≡◌, IfOk, false, codes, string_bytes};
+ghost use Rattle.std.specs.List.{join_by};
+ghost use Rattle.org_core.specs.Replies as replies;
 ghost use Rattle.org_core.specs.Refusals as spec;
 
 use crate::replies::{Reply, with_key};
 use access_lists::Perm;
 use doc_tree::{Bytes, NoMemory, Text, Tree, Trees};
 use http::StatusCode;
+use sandboxes::{Checksum, Sums};
 use std::alloc::Global;
 
 /// Why a request is refused.
@@ -36,6 +39,17 @@ pub enum Refusal {
     Forbidden(Perm),
     /// 409: what the request would create is there.
     AlreadyExists,
+    /// 400: no file of these checksums is there.
+    MissingChecksums(Sums),
+    /// 400: the checksum of the file that was sent isn't the one that was asked for.
+    DigestDiffers {
+        /// The file's own checksum.
+        found: Checksum,
+        /// The checksum in the path.
+        asked: Checksum,
+    },
+    /// 409: the organisation has made 2^64-1 sandboxes.
+    SandboxesAtEnd,
 }
 
 /// Why a request isn't done: it is refused, or no memory was left for it.
@@ -59,7 +73,7 @@ impl From<NoMemory> for Stop {
 }
 
 impl Refusal {
-    /// The reply that tells of the refusal. Only that of a bad field takes memory.
+    /// The reply that tells of the refusal. Only those that name a field or checksums take memory.
     #[tactic(auto, unfolding(json::specs::Print::escape_byte))]
     pub fn reply(self, alloc: Global) -> Result<Reply, NoMemory>
         ensures { IfOk result (λ reply. reply ≡ spec.reply_to self) }
@@ -95,6 +109,12 @@ impl Refusal {
                 b"{\"error\":[\"already exists\"]}",
             )),
             Refusal::Forbidden(permission) => Ok(forbidden(permission)),
+            Refusal::MissingChecksums(sums) => missing_checksums(alloc, &sums),
+            Refusal::DigestDiffers { found, asked } => digest_differs(alloc, found, asked),
+            Refusal::SandboxesAtEnd => Ok(refused(
+                StatusCode::CONFLICT,
+                b"{\"error\":[\"sandbox count is at its end\"]}",
+            )),
         }
     }
 }
@@ -131,6 +151,43 @@ fn bad_field(alloc: Global, field: &Text) -> Result<Reply, NoMemory>
 {
     let mut words = String::from_str(alloc, "bad field ")?;
     words.push_str(field.as_str())?;
+    bad_request_of(alloc, words)
+}
+
+// The checksums stand in the order of their bytes.
+fn missing_checksums(alloc: Global, sums: &Sums) -> Result<Reply, NoMemory>
+    ensures { IfOk result (λ reply. reply ≡ spec.reply_to (Refusal.MissingChecksums sums.now)) }
+{
+    let mut words = String::from_str(alloc, "missing checksums: ")?;
+    words.push_str(named(alloc, sums.as_slice())?.as_str())?;
+    bad_request_of(alloc, words)
+}
+
+// Checksums, with a comma and a space between each two.
+fn named(alloc: Global, sums: &[Checksum]) -> Result<String, NoMemory>
+    ensures { IfOk result (λ text. string_bytes text ≡ join_by (λ sum. sum) (codes ", ") sums.now) }
+{
+    let mut names = Vec::new(alloc);
+    for sum in sums {
+        names.push(sum.as_str())?;
+    }
+    Ok(names.as_slice().join(alloc, ", ")?)
+}
+
+fn digest_differs(alloc: Global, found: Checksum, asked: Checksum) -> Result<Reply, NoMemory>
+    ensures { IfOk result (λ reply. reply ≡ spec.reply_to (Refusal.DigestDiffers found asked)) }
+{
+    let mut words = String::from_str(alloc, "digest is ")?;
+    words.push_str(found.as_str())?;
+    words.push_str(", not ")?;
+    words.push_str(asked.as_str())?;
+    bad_request_of(alloc, words)
+}
+
+// 400 with these words.
+fn bad_request_of(alloc: Global, words: String) -> Result<Reply, NoMemory>
+    ensures { IfOk result (λ reply. reply ≡ replies.with_body 400 (spec.error_body (string_bytes words))) }
+{
     let mut messages = Trees::new(alloc);
     messages.push(Tree::Words(Text::of(words)))?;
     with_key(

@@ -1,6 +1,6 @@
 //! A reply, before it is written as a message.
 
-ghost use Rattle.std.specs.Prelude.{◌≡◌, ◌++◌, IfOk};
+ghost use Rattle.std.specs.Prelude.{◌≡◌, ◌++◌, IfOk, true};
 ghost use Rattle.doc_tree.specs.Tree.{doc_of};
 ghost use Rattle.doc_tree.specs.Valid.{InOrder};
 ghost use Rattle.org_core.specs.Replies as spec;
@@ -56,6 +56,24 @@ pub fn created(alloc: Global, uri: Text) -> Result<Reply, NoMemory>
     ensures { IfOk result (λ reply. reply ≡ spec.created uri) }
 {
     with_key(alloc, StatusCode::CREATED, "uri", Tree::Words(uri))
+}
+
+/// 201 with what was made.
+pub fn made(alloc: Global, tree: &Tree) -> Result<Reply, NoMemory>
+    ensures { IfOk result (λ reply. reply ≡ spec.with_body 201 (doc_of tree.now)) }
+{
+    with_body(alloc, StatusCode::CREATED, tree)
+}
+
+/// 200 with these bytes, which aren't JSON.
+pub fn given(body: Bytes) -> Reply
+    ensures { result ≡ record { status = 200; octets = true; body = body } }
+{
+    Reply {
+        status: StatusCode::OK.as_u16(),
+        octets: true,
+        body,
+    }
 }
 
 /// A text and another behind it.

@@ -6,6 +6,7 @@ ghost use Rattle.org_core.specs.Bodies as bodies;
 use crate::routes::Route;
 use doc_tree::{Listed, Text, Tree};
 use route_table::{Availability, Verb};
+use sandboxes::Hashed;
 
 /// Where a request goes.
 #[derive(Drop)]
@@ -61,6 +62,8 @@ pub enum Body {
     Doc(Tree),
     /// Bytes that no tree could be read from, with the first fault.
     Bad(BadBody),
+    /// The bytes of a file, with their checksum.
+    Raw(Hashed),
     /// More than 4,194,304 bytes, which were dropped.
     TooLong,
 }

@@ -6,7 +6,7 @@ ghost use Rattle.org_core.specs.States.{state_in, IsNobody};
 use crate::bodies::document_in;
 use crate::comers::Comer;
 use crate::group_members::GroupMembers;
-use crate::moves::{Move, Moves, puts_in};
+use crate::moves::{Move, Moves, files_put_in, puts_in};
 use crate::org_state::{OrgState, make_all, make_place_first};
 use crate::refusals::{Refusal, out_of_memory};
 use crate::replies::Reply;
@@ -15,6 +15,7 @@ use crate::stored::Stored;
 use access_lists::{Group as AGroup, Groups, MemberKind, Perm};
 use doc_tree::{Kind, NoMemory, Text, Tree};
 use object_store::{Key, Objects};
+use sandboxes::Files;
 use std::alloc::Global;
 use std::hash::RandomState;
 use std::test::Fail;
@@ -43,12 +44,13 @@ fn refusal(alloc: Global, position: u8) -> Result<Refusal, NoMemory> {
         5 => Refusal::BadField(Text::from_str(alloc, "name")?),
         6 => Refusal::NotFound,
         7 => Refusal::Forbidden(Perm::Delete),
+        8 => Refusal::SandboxesAtEnd,
         _ => Refusal::AlreadyExists,
     })
 }
 
 fn add_refusals(alloc: Global, text: &mut String) -> Result<(), NoMemory> {
-    for position in 0..9 {
+    for position in 0..10 {
         add_refusal(alloc, text, refusal(alloc, position)?)?;
     }
     Ok(())
@@ -100,8 +102,9 @@ fn forget(alloc: Global, state: &mut OrgState) -> Result<(), NoMemory>
 {
     let mut moves = Moves::new(alloc);
     moves.push(Move::TakeOut(web1(alloc)?))?;
-    state.reserve(&moves)?;
-    state.make_all(moves);
+    let mut files = Files::none(alloc);
+    state.reserve(alloc, &mut files, &moves)?;
+    state.make_all(&mut files, moves);
     Ok(())
 }
 
@@ -166,10 +169,13 @@ fn make_one(
 {
     let mut moves = Moves::new(alloc);
     moves.push(one)?;
+    let acme = Text::from_str(alloc, "acme")?;
+    let mut files = Files::none(alloc);
+    files.reserve(alloc, &acme, files_put_in(moves.as_slice()))?;
     objects.reserve(puts_in(moves.as_slice()))?;
     groups.reserve(puts_in(moves.as_slice()))?;
     make_place_first(groups, moves.as_slice())?;
-    make_all(there, objects, groups, moves);
+    make_all(&acme, there, objects, groups, &mut files, moves);
     Ok(())
 }
 

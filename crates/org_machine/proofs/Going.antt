@@ -6,38 +6,38 @@ use Rattle.std.proofs.lemmas.List.Elements.{filter-append}
 use Rattle.org_core.specs.declared.replies.Reply.{Reply}
 use Rattle.org_core.specs.declared.requests.Request.{Request}
 use Rattle.org_core.specs.Requests.{org_of, has_name, is_of}
-use Rattle.org_core.specs.States.{State}
+use Rattle.org_core.specs.FullStates.{FullState}
 use Rattle.org_machine.specs.Marks.{mark_of, answer, after, IsLawful}
 use Rattle.org_machine.specs.Alone.{Exchange, Asked, asked_in, own, replies_alone, state_alone, MarksAreLawful, RunsAlone, States, OutsideAnswer, OutsideAnswered, states_after, Alone}
 use Rattle.org_machine.specs.Serving.{OwnAnswer, Serves, Progress}
 
 -- the small machine answers one request more from the state in which it ended
-pub replies_alone-push : (state : State) (all : List Asked) (next : Asked)
+pub replies_alone-push : (state : FullState) (all : List Asked) (next : Asked)
     → replies_alone state (all ++ next ∷ []) ≡ replies_alone state all ++ answer next.mark next.request (state_alone state all) ∷ []
 replies_alone-push state [] next = refl
 replies_alone-push state (asked ∷ rest) next =
     ap (λ replies. answer asked.mark asked.request state ∷ replies) (replies_alone-push (after asked.mark asked.request state) rest next)
 
 -- and ends in the state that this one leaves
-pub state_alone-push : (state : State) (all : List Asked) (next : Asked)
+pub state_alone-push : (state : FullState) (all : List Asked) (next : Asked)
     → state_alone state (all ++ next ∷ []) ≡ after next.mark next.request (state_alone state all)
 state_alone-push state [] next = refl
 state_alone-push state (asked ∷ rest) next = state_alone-push (after asked.mark asked.request state) rest next
 
 -- one lawful mark more
-pub MarksAreLawful-push : (state : State) (all : List Asked) (next : Asked)
+pub MarksAreLawful-push : (state : FullState) (all : List Asked) (next : Asked)
     → MarksAreLawful state all → IsLawful next.mark next.request (state_alone state all) → MarksAreLawful state (all ++ next ∷ [])
 MarksAreLawful-push state [] next before last = (last, tt)
 MarksAreLawful-push state (asked ∷ rest) next before last =
     (before.0, MarksAreLawful-push (after asked.mark asked.request state) rest next before.1 last)
 
 -- one organisation's exchanges are those of the small machine, which ends in this state
-record Part (opened now : State) (es : List Exchange) : Type 0 where
+record Part (opened now : FullState) (es : List Exchange) : Type 0 where
   runs : RunsAlone opened es
   state : now ≡ state_alone opened (map asked_in es)
 
 -- one exchange more is the small machine's, in the state in which it ended
-runs_more : (opened now : State) (es : List Exchange) (e : Exchange) → RunsAlone opened es → now ≡ state_alone opened (map asked_in es)
+runs_more : (opened now : FullState) (es : List Exchange) (e : Exchange) → RunsAlone opened es → now ≡ state_alone opened (map asked_in es)
     → e.reply ≡ answer (mark_of e.reply) e.request now → IsLawful (mark_of e.reply) e.request now → RunsAlone opened (es ++ e ∷ [])
 runs_more opened now es e runs state reply lawful =
     let all = map asked_in es in
@@ -55,7 +55,7 @@ runs_more opened now es e runs state reply lawful =
     }
 
 -- so an organisation's part goes on by its own request, and stays at another's
-part_more : (opened old : State) (es : List Exchange) (e : Exchange) (is_own : Bool) → Part opened old es
+part_more : (opened old : FullState) (es : List Exchange) (e : Exchange) (is_own : Bool) → Part opened old es
     → (is_own ≡ true → (e.reply ≡ answer (mark_of e.reply) e.request old) × IsLawful (mark_of e.reply) e.request old)
     → Part opened (cond is_own (after (mark_of e.reply) e.request old) old) (es ++ cond is_own (e ∷ []) [])
 part_more opened old es e true part answered =

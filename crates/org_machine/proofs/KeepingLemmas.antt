@@ -17,11 +17,13 @@ use Rattle.org_core.specs.Contexts.{Context}
 use Rattle.org_core.specs.Keeping.{Anyone, Someone, LeadsToConditions}
 use Rattle.org_core.specs.Moves.{after_moves}
 use Rattle.org_core.specs.Outcomes.{shows, tells}
-use Rattle.org_core.specs.States.{State}
+use Rattle.org_core.specs.FullStates.{FullState, none}
 use Rattle.route_table.specs.declared.verbs.Verb.{Verb}
 use Rattle.route_table.specs.declared.verbs.Verb.TheVariants.{Get, Post, Put, Delete, Other}
 use Rattle.access_routes.proofs.AccessLemmas.{access_keep}
 use Rattle.access_routes.specs.AccessRules.{access_rules}
+use Rattle.cookbook_routes.proofs.KeepingLemmas.{cookbooks_keep}
+use Rattle.cookbook_routes.specs.CookbookRules.{cookbook_rules}
 use Rattle.object_routes.proofs.KeepingLemmas.{organisations_keep, objects_keep, data_keep}
 use Rattle.object_routes.specs.DataBags.{data_rules}
 use Rattle.object_routes.specs.Objects.{objects_rules}
@@ -50,20 +52,20 @@ at_route_keeps context (Objects collection route) request meets free =
     answered_keeps Someone (objects_rules collection) (objects_keep collection) context route request meets (known_at (Objects collection route) context free refl)
 at_route_keeps context (Data route) request meets free = answered_keeps Someone data_rules data_keep context route request meets (known_at (Data route) context free refl)
 at_route_keeps context (Access route) request meets free = answered_keeps Someone access_rules access_keep context route request meets (known_at (Access route) context free refl)
-at_route_keeps context (Cookbooks route) request meets free = meets
+at_route_keeps context (Cookbooks route) request meets free = answered_keeps Anyone cookbook_rules cookbooks_keep context route request meets tt
 at_route_keeps context (Policies route) request meets free = meets
 at_route_keeps context (Search route) request meets free = meets
 
-organisations_keep_it : (state : State) (caller : Option (List ℕ)) (verb : Verb) (body : Body) → MeetsConditions state → LeadsToConditions state (at_organisations caller verb body)
-organisations_keep_it state caller Get body meets = unless_keeps state (lacking (context [] caller None) (Operator permission.Read ∷ [])) (tells (shows (dict no_pairs))) meets (λ _. meets)
+organisations_keep_it : (state : FullState) (caller : Option (List ℕ)) (verb : Verb) (body : Body) → MeetsConditions state.state → LeadsToConditions state.state (at_organisations caller verb body)
+organisations_keep_it state caller Get body meets = unless_keeps state.state (lacking (context [] caller none) (Operator permission.Read ∷ [])) (tells (shows (dict no_pairs))) meets (λ _. meets)
 organisations_keep_it state caller Post body meets = meets
 organisations_keep_it state caller Put body meets = meets
 organisations_keep_it state caller Delete body meets = meets
 organisations_keep_it state caller Other body meets = meets
 
-at_place_keeps : (place : Place) (request : Request) (state : State) → MeetsConditions state → LeadsToConditions state (at_place place request state)
+at_place_keeps : (place : Place) (request : Request) (state : FullState) → MeetsConditions state.state → LeadsToConditions state.state (at_place place request state)
 at_place_keeps (Of org route) request state meets =
-    unless_keeps state (absence_refusal (asks_for_organisation route) (context org request.caller state)) (at_route (context org request.caller state) route request) meets
+    unless_keeps state.state (absence_refusal (asks_for_organisation route) (context org request.caller state)) (at_route (context org request.caller state) route request) meets
     (λ free. at_route_keeps (context org request.caller state) route request meets free)
 at_place_keeps Organisations request state meets = organisations_keep_it state request.caller request.verb request.body meets
 at_place_keeps LeftOut request state meets = meets
@@ -71,11 +73,11 @@ at_place_keeps NoRoute request state meets = meets
 at_place_keeps NoMemory request state meets = meets
 
 -- each step leads from a state that meets the conditions to one that does
-pub step_keeps : (request : Request) (state : State) → MeetsConditions state → MeetsConditions (after_moves (step request state).moves state)
-step_keeps request state meets = unless_keeps state (head_refusal request) (at_place request.place request state) meets (λ _. at_place_keeps request.place request state meets)
+pub step_keeps : (request : Request) (state : FullState) → MeetsConditions state.state → MeetsConditions (after_moves (step request state).moves state.state)
+step_keeps request state meets = unless_keeps state.state (head_refusal request) (at_place request.place request state) meets (λ _. at_place_keeps request.place request state meets)
 
 -- and so does whatever befalls a request
-pub after_keeps : (mark : Mark) (request : Request) (state : State) → MeetsConditions state → MeetsConditions (after mark request state)
+pub after_keeps : (mark : Mark) (request : Request) (state : FullState) → MeetsConditions state.state → MeetsConditions (after mark request state).state
 after_keeps served request state meets = step_keeps request state meets
 after_keeps short request state meets = meets
 after_keeps down request state meets = meets

@@ -19,11 +19,13 @@ use Rattle.org_core.specs.Needs.{lacking}
 use Rattle.org_core.specs.Outcomes.{Decided, Done, Finds, shows, tells, unless, outcome_of}
 use Rattle.org_core.specs.Refusals.{refuses}
 use Rattle.org_core.specs.Rules.{Rules}
-use Rattle.org_core.specs.States.{State}
+use Rattle.org_core.specs.FullStates.{FullState, none}
 use Rattle.route_table.specs.declared.verbs.Verb.{Verb}
 use Rattle.route_table.specs.declared.verbs.Verb.TheVariants.{Get, Post, Put, Delete, Other}
 use Rattle.access_routes.proofs.AccessLemmas.{access_orderly}
 use Rattle.access_routes.specs.AccessRules.{access_rules}
+use Rattle.cookbook_routes.proofs.OrderlyLemmas.{cookbooks_orderly}
+use Rattle.cookbook_routes.specs.CookbookRules.{cookbook_rules}
 use Rattle.object_routes.proofs.OrderlyLemmas.{organisations_orderly, objects_orderly, data_orderly}
 use Rattle.object_routes.specs.DataBags.{data_rules}
 use Rattle.object_routes.specs.Objects.{objects_rules}
@@ -54,18 +56,18 @@ at_route_orderly context (Organisation route) request = answered_orderly organis
 at_route_orderly context (Objects collection route) request = answered_orderly (objects_rules collection) (objects_orderly collection) context route request
 at_route_orderly context (Data route) request = answered_orderly data_rules data_orderly context route request
 at_route_orderly context (Access route) request = answered_orderly access_rules access_orderly context route request
-at_route_orderly context (Cookbooks route) request = refl
+at_route_orderly context (Cookbooks route) request = answered_orderly cookbook_rules cookbooks_orderly context route request
 at_route_orderly context (Policies route) request = refl
 at_route_orderly context (Search route) request = refl
 
 organisations_orderly_too : (caller : Option (List ℕ)) (verb : Verb) (body : Body) → MakesOrderly (at_organisations caller verb body)
-organisations_orderly_too caller Get body = unless_orderly (lacking (context [] caller None) (Operator permission.Read ∷ [])) (tells (shows (dict no_pairs))) refl
+organisations_orderly_too caller Get body = unless_orderly (lacking (context [] caller none) (Operator permission.Read ∷ [])) (tells (shows (dict no_pairs))) refl
 organisations_orderly_too caller Post body = refl
 organisations_orderly_too caller Put body = refl
 organisations_orderly_too caller Delete body = refl
 organisations_orderly_too caller Other body = refl
 
-at_place_orderly : (place : Place) (request : Request) (state : State) → MakesOrderly (at_place place request state)
+at_place_orderly : (place : Place) (request : Request) (state : FullState) → MakesOrderly (at_place place request state)
 at_place_orderly (Of org route) request state =
     unless_orderly (absence_refusal (asks_for_organisation route) (context org request.caller state)) (at_route (context org request.caller state) route request)
     (at_route_orderly (context org request.caller state) route request)
@@ -75,7 +77,7 @@ at_place_orderly NoRoute request state = refl
 at_place_orderly NoMemory request state = refl
 
 -- the moves of each step are orderly
-pub decided_orderly : (request : Request) (state : State) → MakesOrderly (decided request state)
+pub decided_orderly : (request : Request) (state : FullState) → MakesOrderly (decided request state)
 decided_orderly request state = unless_orderly (head_refusal request) (at_place request.place request state) (at_place_orderly request.place request state)
 
 found_of : (prepared : Prepared) (answer : Result Done Refusal) → IsOrderly (outcome_of answer).moves → Finds (Ok prepared) answer → IsOrderly prepared.moves

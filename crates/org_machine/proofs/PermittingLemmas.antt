@@ -14,7 +14,7 @@ use Rattle.route_table.specs.declared.verbs.Verb.TheVariants.{Get, Post, Put, De
 use Rattle.org_core.specs.declared.needs.Need.{Need}
 use Rattle.org_core.specs.declared.needs.Need.TheVariants.{Operator, Listed}
 use Rattle.org_core.specs.declared.refusals.Refusal.{Refusal}
-use Rattle.org_core.specs.declared.refusals.Refusal.TheVariants.{TooLarge, VersionNotTaken, NotImplemented, NotFound, NotAllowed, UnknownCaller, NotJson, TooDeep, NotWhole, BadField, Forbidden, AlreadyExists}
+use Rattle.org_core.specs.declared.refusals.Refusal.TheVariants.{TooLarge, VersionNotTaken, NotImplemented, NotFound, NotAllowed, UnknownCaller, NotJson, TooDeep, NotWhole, BadField, Forbidden, AlreadyExists, MissingChecksums, DigestDiffers, SandboxesAtEnd}
 use Rattle.org_core.specs.declared.replies.Reply.{Reply}
 use Rattle.org_core.specs.declared.requests.Body.{Body}
 use Rattle.org_core.specs.declared.requests.Place.{Place}
@@ -31,10 +31,13 @@ use Rattle.org_core.specs.Plain.{IsPlain, RefusesPlainly, NeverForbids}
 use Rattle.org_core.specs.Refusals.{refuses, first_some, reply_to}
 use Rattle.org_core.specs.Requests.{is_operator}
 use Rattle.org_core.specs.Rules.{Rules}
-use Rattle.org_core.specs.States.{State, list_in, membership_of}
+use Rattle.org_core.specs.FullStates.{FullState}
+use Rattle.org_core.specs.States.{list_in, membership_of}
 use Rattle.org_machine.specs.Permitting.{IsListed, IsPermitted, LacksOne, IsForbiddenBy, IsForbiddenAt, IsForbiddenIn, IsForbidden}
 use Rattle.access_routes.proofs.PlainLemmas.{access_never_forbids}
 use Rattle.access_routes.specs.AccessRules.{access_rules}
+use Rattle.cookbook_routes.proofs.PlainLemmas.{cookbooks_never_forbid}
+use Rattle.cookbook_routes.specs.CookbookRules.{cookbook_rules}
 use Rattle.object_routes.proofs.PlainLemmas.{organisations_never_forbid, objects_never_forbid, data_never_forbid}
 use Rattle.object_routes.specs.DataBags.{data_rules}
 use Rattle.object_routes.specs.Objects.{objects_rules}
@@ -69,6 +72,9 @@ plain_is_not TooDeep plain is = not_403 400 refl is
 plain_is_not NotWhole plain is = not_403 400 refl is
 plain_is_not (BadField field) plain is = not_403 400 refl is
 plain_is_not AlreadyExists plain is = not_403 409 refl is
+plain_is_not (MissingChecksums sums) plain is = not_403 400 refl is
+plain_is_not (DigestDiffers found asked) plain is = not_403 400 refl is
+plain_is_not SandboxesAtEnd plain is = not_403 409 refl is
 plain_is_not (Forbidden permission) plain is = plain
 
 told_is_not : (told : Told) → (reply_of told).status ≡ 403 → ⊥
@@ -211,7 +217,7 @@ at_route_403 context (Organisation route) request = answered_403 organisation_ru
 at_route_403 context (Objects collection route) request = answered_403 (objects_rules collection) (objects_never_forbid collection) context route request
 at_route_403 context (Data route) request = answered_403 data_rules data_never_forbid context route request
 at_route_403 context (Access route) request = answered_403 access_rules access_never_forbids context route request
-at_route_403 context (Cookbooks route) request = ((λ is. not_403 501 refl is), (λ none. absurd none))
+at_route_403 context (Cookbooks route) request = answered_403 cookbook_rules cookbooks_never_forbid context route request
 at_route_403 context (Policies route) request = ((λ is. not_403 501 refl is), (λ none. absurd none))
 at_route_403 context (Search route) request = ((λ is. not_403 501 refl is), (λ none. absurd none))
 
@@ -259,7 +265,7 @@ organisations_403 caller Put body = ((λ is. not_403 405 refl is), (λ none. abs
 organisations_403 caller Delete body = ((λ is. not_403 405 refl is), (λ none. absurd none))
 organisations_403 caller Other body = ((λ is. not_403 405 refl is), (λ none. absurd none))
 
-at_place_403 : (place : Place) (request : Request) (state : State) → Is403 (at_place place request state) ↔ IsForbiddenIn place request state
+at_place_403 : (place : Place) (request : Request) (state : FullState) → Is403 (at_place place request state) ↔ IsForbiddenIn place request state
 at_place_403 (Of org route) request state =
     let its = context org request.caller state in
     let stands = unless_403 (absence_refusal (asks_for_organisation route) its) (at_route its route request) (absence_plain (asks_for_organisation route) its) in
@@ -271,7 +277,7 @@ at_place_403 NoRoute request state = ((λ is. not_403 404 refl is), (λ none. ab
 at_place_403 NoMemory request state = ((λ is. not_403 501 refl is), (λ none. absurd none))
 
 -- a step is answered 403 exactly where its request is forbidden
-pub step_403 : (request : Request) (state : State) → ((step request state).reply.status ≡ 403) ↔ IsForbidden request state
+pub step_403 : (request : Request) (state : FullState) → ((step request state).reply.status ≡ 403) ↔ IsForbidden request state
 step_403 request state =
     let stands = unless_403 (head_refusal request) (at_place request.place request state) (head_plain request) in
     let there = at_place_403 request.place request state in
@@ -280,13 +286,13 @@ step_403 request state =
 -- ---- replies
 
 -- a reply that is the step's, or tells what befell the request, is permitted exactly
-pub permitted_exactly : (request : Request) (reply : Reply) (state : State) → reply ≡ answer (mark_of reply) request state → IsPermittedExactly request reply state
+pub permitted_exactly : (request : Request) (reply : Reply) (state : FullState) → reply ≡ answer (mark_of reply) request state → IsPermittedExactly request reply state
 permitted_exactly request reply state is mark =
     let same : reply ≡ (step request state).reply = is ∙ ap (λ m. answer m request state) mark in
     let exact = step_403 request state in
     ((λ forbids. exact.0 (sym (ap (λ (r : Reply). r.status) same) ∙ forbids)), (λ forbidden. ap (λ (r : Reply). r.status) same ∙ exact.1 forbidden))
 
-each_permitted : (state : State) (es : List Exchange) → map (λ e. e.reply) es ≡ replies_alone state (map asked_in es) → ArePermittedExactly state es
+each_permitted : (state : FullState) (es : List Exchange) → map (λ e. e.reply) es ≡ replies_alone state (map asked_in es) → ArePermittedExactly state es
 each_permitted state [] is = tt
 each_permitted state (e ∷ rest) is =
     let first : e.reply ≡ answer (mark_of e.reply) e.request state = cc is in
@@ -294,5 +300,5 @@ each_permitted state (e ∷ rest) is =
     (permitted_exactly e.request e.reply state first, each_permitted (after (mark_of e.reply) e.request state) rest others)
 
 -- and so are the exchanges of the small machine
-pub all_permitted : (opened : State) (es : List Exchange) → RunsAlone opened es → ArePermittedExactly opened es
+pub all_permitted : (opened : FullState) (es : List Exchange) → RunsAlone opened es → ArePermittedExactly opened es
 all_permitted opened es runs = each_permitted opened es runs.replies

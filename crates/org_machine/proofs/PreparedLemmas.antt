@@ -3,15 +3,17 @@ use Rattle.std.proofs.Common.{◌≡◌, ◌+◌, ◌⊎◌, ℕ, List, [], Resu
 use Rattle.org_core.specs.declared.groups.Prepared.{Prepared}
 use Rattle.org_core.specs.declared.moves.Move.{Move}
 use Rattle.org_core.specs.declared.refusals.Refusal.{Refusal}
-use Rattle.org_core.specs.declared.refusals.Refusal.TheVariants.{TooLarge, VersionNotTaken, NotImplemented, NotFound, NotAllowed, UnknownCaller, NotJson, TooDeep, NotWhole, BadField, Forbidden, AlreadyExists}
+use Rattle.org_core.specs.declared.refusals.Refusal.TheVariants.{TooLarge, VersionNotTaken, NotImplemented, NotFound, NotAllowed, UnknownCaller, NotJson, TooDeep, NotWhole, BadField, Forbidden, AlreadyExists, MissingChecksums, DigestDiffers, SandboxesAtEnd}
 use Rattle.org_core.specs.declared.requests.Request.{Request}
-use Rattle.org_core.specs.Moves.{HasRoom, after_moves}
+use Rattle.org_core.specs.FileMoves.{after_all}
+use Rattle.org_core.specs.Rooms.{HasRoom}
 use Rattle.org_core.specs.Outcomes.{Told, shows, makes, gives, Done, Decided, Finds, reply_of, outcome_of, LooksAtMost}
 use Rattle.org_core.specs.Refusals.{reply_to, out_of_memory}
 use Rattle.access_lists.specs.Rooms as groups
 use Rattle.object_store.specs.Objects.{Store}
-use Rattle.org_core.specs.States.{State, Kept}
-use Rattle.org_machine.specs.Marks.{mark_of, served, short, answer, after, IsLawful}
+use Rattle.org_core.specs.FullStates.{FullState}
+use Rattle.org_core.specs.States.{Kept}
+use Rattle.org_machine.specs.Marks.{mark_of, served, short, own_name, answer, after, IsLawful}
 use Rattle.org_machine.specs.Serving.{IsGood, ComesWith, Does, Looks}
 use Rattle.org_machine.specs.Steps.{decided, step, looks}
 
@@ -35,13 +37,16 @@ refusal_is_served NotWhole = refl
 refusal_is_served (BadField field) = refl
 refusal_is_served (Forbidden permission) = refl
 refusal_is_served AlreadyExists = refl
+refusal_is_served (MissingChecksums sums) = refl
+refusal_is_served (DigestDiffers found asked) = refl
+refusal_is_served SandboxesAtEnd = refl
 
 outcome_is_served : (answer : Result Done Refusal) → mark_of (outcome_of answer).reply ≡ served
 outcome_is_served (Ok done) = told_is_served done.told
 outcome_is_served (Err refusal) = refusal_is_served refusal
 
 -- no step is answered 500 or 503
-pub step_is_served : (request : Request) (state : State) → mark_of (step request state).reply ≡ served
+pub step_is_served : (request : Request) (state : FullState) → mark_of (step request state).reply ≡ served
 step_is_served request state = outcome_is_served (decided request state).answer
 
 -- what is told of an operation is 200 or 201
@@ -59,50 +64,50 @@ unless_good status moves (inl none) bad = none
 unless_good status moves (inr good) bad = absurd (bad good)
 
 -- a step that isn't answered 200 or 201 makes no move
-pub no_moves : (request : Request) (state : State) → (IsGood (step request state).reply.status → ⊥) → (step request state).moves ≡ []
+pub no_moves : (request : Request) (state : FullState) → (IsGood (step request state).reply.status → ⊥) → (step request state).moves ≡ []
 no_moves request state bad = unless_good _ _ (comes_with (decided request state).answer) bad
 
 -- what holds of a prepared request
-pub record IsPrepared (prepared : Prepared) (request : Request) (state : State) (kept : Kept) (before now : ℕ) : Type 0 where
+pub record IsPrepared (prepared : Prepared) (request : Request) (state : FullState) (kept : Kept) (spare before now : ℕ) : Type 0 where
   pub reply : prepared.reply ≡ answer (mark_of prepared.reply) request state
   pub lawful : IsLawful (mark_of prepared.reply) request state
-  pub moves : after_moves prepared.moves state ≡ after (mark_of prepared.reply) request state
+  pub moves : after_all (own_name request) prepared.moves state ≡ after (mark_of prepared.reply) request state
   pub made : ComesWith prepared.reply.status prepared.moves
-  pub room : HasRoom prepared.moves kept.objects kept.groups
+  pub room : HasRoom prepared.moves kept.objects kept.groups spare
   pub looks : Looks prepared.reply request state before now
 
 -- it took just the looks of the step, and so at most these
 exactly : (before now count : ℕ) → now ≡ before + count → LooksAtMost count before now
 exactly before now count is = (omega (arith, is), omega (arith, is))
 
-no_room_needed : (moves : List Move) (store : Store) (members : groups.Kept) → moves ≡ [] → HasRoom moves store members
-no_room_needed moves store members none = subst (λ ms. HasRoom ms store members) (sym none) (record { room = omega arith; orderly = refl; place = tt })
+no_room_needed : (moves : List Move) (store : Store) (members : groups.Kept) (spare : ℕ) → moves ≡ [] → HasRoom moves store members spare
+no_room_needed moves store members spare none = subst (λ ms. HasRoom ms store members spare) (sym none) (record { room = omega arith; orderly = refl; place = tt; files = omega arith })
 
 short≢served : short ≡ served → ⊥
 short≢served same = cc
 
-pub is_prepared : (prepared : Prepared) (request : Request) (state : State) (kept : Kept) (before now : ℕ)
-    → Does prepared (decided request state) kept before now → IsPrepared prepared request state kept before now
-is_prepared prepared request state kept before now (inl p) =
+pub is_prepared : (prepared : Prepared) (request : Request) (state : FullState) (kept : Kept) (spare before now : ℕ)
+    → Does prepared (decided request state) kept spare before now → IsPrepared prepared request state kept spare before now
+is_prepared prepared request state kept spare before now (inl p) =
     let mark : mark_of prepared.reply ≡ served = ap mark_of p.reply ∙ step_is_served request state in
     record {
       reply = p.reply ∙ ap (λ m. answer m request state) (sym mark);
       lawful = subst (λ m. IsLawful m request state) (sym mark) tt;
-      moves = ap (λ ms. after_moves ms state) p.moves ∙ ap (λ m. after m request state) (sym mark);
+      moves = ap (λ ms. after_all (own_name request) ms state) p.moves ∙ ap (λ m. after m request state) (sym mark);
       made =
           subst (λ ms. ComesWith prepared.reply.status ms) (sym p.moves)
           (subst (λ r. ComesWith r.status (step request state).moves) (sym p.reply) (comes_with (decided request state).answer));
       room = p.room;
       looks = record { exact = λ _. p.looked; most = exactly before now (looks request state) p.looked };
     }
-is_prepared prepared request state kept before now (inr p) =
+is_prepared prepared request state kept spare before now (inr p) =
     let mark : mark_of prepared.reply ≡ short = ap mark_of p.reply in
     record {
       reply = p.reply ∙ ap (λ m. answer m request state) (sym mark);
       lawful = subst (λ m. IsLawful m request state) (sym mark) tt;
-      moves = ap (λ ms. after_moves ms state) p.moves ∙ ap (λ m. after m request state) (sym mark);
+      moves = ap (λ ms. after_all (own_name request) ms state) p.moves ∙ ap (λ m. after m request state) (sym mark);
       made = inl p.moves;
-      room = no_room_needed prepared.moves kept.objects kept.groups p.moves;
+      room = no_room_needed prepared.moves kept.objects kept.groups spare p.moves;
       looks = record { exact = λ is. absurd (short≢served (sym mark ∙ is)); most = p.looked };
     }
 
@@ -113,11 +118,11 @@ found_is_due prepared (Ok done) found = found
 found_is_due prepared (Err refusal) found = absurd found
 
 -- what was found is done with room for it, or told as want of memory
-pub found_with_room : (prepared result : Prepared) (due : Decided) (kept : Kept) (before now : ℕ)
-    → Finds (Ok prepared) due.answer → now ≡ before + due.looks → HasRoom result.moves kept.objects kept.groups
-    → (result ≡ prepared) ⊎ ((result.reply ≡ out_of_memory) × (result.moves ≡ [])) → Does result due kept before now
-found_with_room prepared result due kept before now found looked room (inl same) =
+pub found_with_room : (prepared result : Prepared) (due : Decided) (kept : Kept) (spare before now : ℕ)
+    → Finds (Ok prepared) due.answer → now ≡ before + due.looks → HasRoom result.moves kept.objects kept.groups spare
+    → (result ≡ prepared) ⊎ ((result.reply ≡ out_of_memory) × (result.moves ≡ [])) → Does result due kept spare before now
+found_with_room prepared result due kept spare before now found looked room (inl same) =
     let is = found_is_due prepared due.answer found in
     inl (record { reply = ap (λ (p : Prepared). p.reply) same ∙ is.0; moves = ap (λ (p : Prepared). p.moves) same ∙ is.1; room = room; looked = looked })
-found_with_room prepared result due kept before now found looked room (inr lost) =
+found_with_room prepared result due kept spare before now found looked room (inr lost) =
     inr (record { reply = lost.0; moves = lost.1; looked = exactly before now due.looks looked })

@@ -11,7 +11,8 @@ use Rattle.org_core.specs.declared.requests.Place.{Place}
 use Rattle.org_core.specs.declared.requests.Place.TheVariants.{Of, Organisations, LeftOut, NoRoute, NoMemory}
 use Rattle.org_core.specs.Replies.{shown, paths_behind}
 use Rattle.org_core.specs.Refusals.{out_of_memory}
-use Rattle.org_core.specs.States.{State, name_cmp}
+use Rattle.org_core.specs.FullStates.{FullState, none}
+use Rattle.org_core.specs.States.{name_cmp}
 use Rattle.org_machine.specs.Heads.{head_refusal}
 use Rattle.org_machine.specs.Steps.{step}
 use Rattle.org_machine.specs.Marks.{Mark, served, short, down, mark_of, answer, after, IsLawful}
@@ -35,32 +36,32 @@ abbrev pub own : List ℕ → List Exchange → List Exchange
 own name exchanges = filter (λ e. is_of name e.request) exchanges
 
 -- the small machine: the replies to these requests, from this state on
-abbrev pub replies_alone : State → List Asked → List Reply
+abbrev pub replies_alone : FullState → List Asked → List Reply
 replies_alone state [] = []
 replies_alone state (asked ∷ rest) = answer asked.mark asked.request state ∷ replies_alone (after asked.mark asked.request state) rest
 
 -- the state in which it ends
-abbrev pub state_alone : State → List Asked → State
+abbrev pub state_alone : FullState → List Asked → FullState
 state_alone state [] = state
 state_alone state (asked ∷ rest) = state_alone (after asked.mark asked.request state) rest
 
 -- each mark is one that the request may have in the state at its position
-abbrev pub MarksAreLawful : State → List Asked → Type 0
+abbrev pub MarksAreLawful : FullState → List Asked → Type 0
 MarksAreLawful state [] = Unit {0}
 MarksAreLawful state (asked ∷ rest) = IsLawful asked.mark asked.request state × MarksAreLawful (after asked.mark asked.request state) rest
 
 -- these exchanges are those of the small machine, from this state on
-pub record RunsAlone (opened : State) (exchanges : List Exchange) : Type 0 where
+pub record RunsAlone (opened : FullState) (exchanges : List Exchange) : Type 0 where
   pub replies : map (λ e. e.reply) exchanges ≡ replies_alone opened (map asked_in exchanges)
   pub lawful : MarksAreLawful opened (map asked_in exchanges)
 
 -- the state of each organisation, by its name
 abbrev pub States : Type 0
-States = List ℕ → State
+States = List ℕ → FullState
 
 -- no organisation is there
 abbrev pub nobody : States
-nobody name = None
+nobody name = none
 
 -- what a request of no organisation is answered: as the step says in every state, or the names of all organisations
 pub data Outside : Type 0 where
@@ -91,12 +92,12 @@ listing names = shown (paths_behind (codes "/organizations/") names)
 pub record Lists (states : States) (reply : Reply) : Type 0 where
   pub names : List (List ℕ)
   pub sorted : IsStrictlySortedBy name_cmp names
-  pub there : (name : List ℕ) → list_any (bytes_eq name) names ≡ is_some (states name)
+  pub there : (name : List ℕ) → list_any (bytes_eq name) names ≡ is_some (states name).state
   pub told : reply ≡ listing names
 
 -- the reply is the one that is due in these states: of a step, the same in every state
 abbrev pub IsDue : States → Outside → Reply → Type 0
-IsDue states (steps request) reply = (state : State) → reply ≡ (step request state).reply
+IsDue states (steps request) reply = (state : FullState) → reply ≡ (step request state).reply
 IsDue states lists reply = Lists states reply
 
 -- a request of no organisation is answered in these states, by its mark

@@ -17,8 +17,10 @@ use Rattle.org_core.specs.declared.routes.Route.TheVariants.{Organisation, Objec
 use Rattle.org_core.specs.Contexts.{Context}
 use Rattle.org_core.specs.Requests.{is_operator}
 use Rattle.org_core.specs.Rules.{Rules}
-use Rattle.org_core.specs.States.{State, list_in, membership_of}
+use Rattle.org_core.specs.FullStates.{FullState}
+use Rattle.org_core.specs.States.{list_in, membership_of}
 use Rattle.access_routes.specs.AccessRules.{access_rules}
+use Rattle.cookbook_routes.specs.CookbookRules.{cookbook_rules}
 use Rattle.object_routes.specs.DataBags.{data_rules}
 use Rattle.object_routes.specs.Objects.{objects_rules}
 use Rattle.object_routes.specs.Organisations.{organisation_rules}
@@ -56,7 +58,7 @@ IsForbiddenAt context (Organisation route) request = IsForbiddenBy organisation_
 IsForbiddenAt context (Objects collection route) request = IsForbiddenBy (objects_rules collection) context route request
 IsForbiddenAt context (Data route) request = IsForbiddenBy data_rules context route request
 IsForbiddenAt context (Access route) request = IsForbiddenBy access_rules context route request
-IsForbiddenAt context (Cookbooks route) request = ⊥
+IsForbiddenAt context (Cookbooks route) request = IsForbiddenBy cookbook_rules context route request
 IsForbiddenAt context (Policies route) request = ⊥
 IsForbiddenAt context (Search route) request = ⊥
 
@@ -69,7 +71,7 @@ IsForbiddenListing Delete caller = ⊥
 IsForbiddenListing Other caller = ⊥
 
 -- at a place: of an organisation, it is there and knows the caller, where the route asks for that
-abbrev pub IsForbiddenIn : Place → Request → State → Type 0
+abbrev pub IsForbiddenIn : Place → Request → FullState → Type 0
 IsForbiddenIn (Of org route) request state =
     (absence_refusal (asks_for_organisation route) (context org request.caller state) ≡ None) × IsForbiddenAt (context org request.caller state) route request
 IsForbiddenIn Organisations request state = IsForbiddenListing request.verb request.caller
@@ -78,14 +80,14 @@ IsForbiddenIn NoRoute request state = ⊥
 IsForbiddenIn NoMemory request state = ⊥
 
 -- the head refuses nothing, and the request is forbidden at its place
-abbrev pub IsForbidden : Request → State → Type 0
+abbrev pub IsForbidden : Request → FullState → Type 0
 IsForbidden request state = (head_refusal request ≡ None) × IsForbiddenIn request.place request state
 
 -- a request that is served is answered 403 exactly where it is forbidden in this state
-abbrev pub IsPermittedExactly : Request → Reply → State → Type 0
+abbrev pub IsPermittedExactly : Request → Reply → FullState → Type 0
 IsPermittedExactly request reply state = mark_of reply ≡ served → (reply.status ≡ 403) ↔ IsForbidden request state
 
 -- and so is each of these, in the state at its position
-abbrev pub ArePermittedExactly : State → List Exchange → Type 0
+abbrev pub ArePermittedExactly : FullState → List Exchange → Type 0
 ArePermittedExactly state [] = Unit {0}
 ArePermittedExactly state (e ∷ rest) = IsPermittedExactly e.request e.reply state × ArePermittedExactly (after (mark_of e.reply) e.request state) rest

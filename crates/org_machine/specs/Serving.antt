@@ -5,10 +5,11 @@ use Rattle.org_core.specs.declared.moves.Move.{Move}
 use Rattle.org_core.specs.declared.replies.Reply.{Reply}
 use Rattle.org_core.specs.declared.requests.Request.{Request}
 use Rattle.org_core.specs.Requests.{org_of, is_of}
-use Rattle.org_core.specs.Moves.{HasRoom}
+use Rattle.org_core.specs.Rooms.{HasRoom}
 use Rattle.org_core.specs.Outcomes.{Decided, outcome_of, LooksAtMost}
 use Rattle.org_core.specs.Refusals.{out_of_memory}
-use Rattle.org_core.specs.States.{State, Kept}
+use Rattle.org_core.specs.FullStates.{FullState}
+use Rattle.org_core.specs.States.{Kept}
 use Rattle.org_machine.specs.Steps.{looks}
 use Rattle.org_machine.specs.Marks.{mark_of, served, answer, after, IsLawful}
 use Rattle.org_machine.specs.Alone.{Exchange, Alone, States, OutsideAnswer, states_after}
@@ -25,11 +26,12 @@ ComesWith status moves = (moves ≡ []) ⊎ IsGood status
 abbrev pub IsOrShort : Reply → Reply → Type 0
 IsOrShort reply due = (reply ≡ due) ⊎ (reply ≡ out_of_memory)
 
--- what was prepared is what was decided; there is room for its moves, and it took all its looks
-pub record IsDue (prepared : Prepared) (due : Decided) (kept : Kept) (before now : ℕ) : Type 0 where
+-- what was prepared is what was decided; there is room for its moves, among the files for so many more, and it took
+-- all its looks
+pub record IsDue (prepared : Prepared) (due : Decided) (kept : Kept) (spare before now : ℕ) : Type 0 where
   pub reply : prepared.reply ≡ (outcome_of due.answer).reply
   pub moves : prepared.moves ≡ (outcome_of due.answer).moves
-  pub room : HasRoom prepared.moves kept.objects kept.groups
+  pub room : HasRoom prepared.moves kept.objects kept.groups spare
   pub looked : now ≡ before + due.looks
 
 -- what was prepared tells of want of memory and makes no move, after some of the looks
@@ -39,11 +41,11 @@ pub record IsShort (prepared : Prepared) (due : Decided) (before now : ℕ) : Ty
   pub looked : LooksAtMost due.looks before now
 
 -- one of both
-abbrev pub Does : Prepared → Decided → Kept → ℕ → ℕ → Type 0
-Does prepared due kept before now = IsDue prepared due kept before now ⊎ IsShort prepared due before now
+abbrev pub Does : Prepared → Decided → Kept → ℕ → ℕ → ℕ → Type 0
+Does prepared due kept spare before now = IsDue prepared due kept spare before now ⊎ IsShort prepared due before now
 
 -- a request that is served looks at just the bodies that its step says, and any other at no more
-pub record Looks (reply : Reply) (request : Request) (state : State) (before now : ℕ) : Type 0 where
+pub record Looks (reply : Reply) (request : Request) (state : FullState) (before now : ℕ) : Type 0 where
   pub exact : mark_of reply ≡ served → now ≡ before + looks request state
   pub most : LooksAtMost (looks request state) before now
 
@@ -54,7 +56,7 @@ OwnAnswer states (Some org) request reply =
     (reply ≡ answer (mark_of reply) request (states org)) × IsLawful (mark_of reply) request (states org)
 
 -- the state of the organisation of this name after a request: what another one does leaves it as it was
-abbrev pub state_then : List ℕ → Request → Reply → State → State
+abbrev pub state_then : List ℕ → Request → Reply → FullState → FullState
 state_then name request reply state = if is_of name request then after (mark_of reply) request state else state
 
 -- one request is served in these states

@@ -1,6 +1,6 @@
 -- One request on one organisation's state: what the head refuses, whether the organisation has to be there,
 -- and then the rules of the route's group, one line a group.
-use Rattle.std.specs.Prelude.{Bool, true, false, ℕ, List, [], ◌∷◌, Option, None, Result, Ok, Err, codes}
+use Rattle.std.specs.Prelude.{Bool, true, false, ℕ, List, [], ◌∷◌, Option, Result, Ok, Err, codes}
 use Rattle.doc_tree.specs.Doc.{Doc, dict, no_pairs}
 use Rattle.route_table.specs.declared.verbs.Verb.{Verb}
 use Rattle.route_table.specs.declared.verbs.Verb.TheVariants.{Get, Post, Put, Delete, Other}
@@ -20,8 +20,9 @@ use Rattle.org_core.specs.Bodies.{document_in}
 use Rattle.org_core.specs.Contexts.{Context}
 use Rattle.org_core.specs.Needs.{lacking}
 use Rattle.org_core.specs.Outcomes.{Decided, Outcome, shows, tells, refuse, unless, outcome_of}
-use Rattle.org_core.specs.States.{State}
+use Rattle.org_core.specs.FullStates.{FullState, none}
 use Rattle.access_routes.specs.AccessRules.{access_rules}
+use Rattle.cookbook_routes.specs.CookbookRules.{cookbook_rules}
 use Rattle.object_routes.specs.DataBags.{data_rules}
 use Rattle.object_routes.specs.Objects.{objects_rules}
 use Rattle.object_routes.specs.Organisations.{organisation_rules}
@@ -34,7 +35,7 @@ at_route context (Organisation route) request = answered_by organisation_rules c
 at_route context (Objects collection route) request = answered_by (objects_rules collection) context route request
 at_route context (Data route) request = answered_by data_rules context route request
 at_route context (Access route) request = answered_by access_rules context route request
-at_route context (Cookbooks route) request = refuse NotImplemented
+at_route context (Cookbooks route) request = answered_by cookbook_rules context route request
 at_route context (Policies route) request = refuse NotImplemented
 at_route context (Search route) request = refuse NotImplemented
 
@@ -57,9 +58,9 @@ asks_for_organisation (Search route) = true
 abbrev pub within : Context → Route → Request → Decided
 within context route request = unless (absence_refusal (asks_for_organisation route) context) (at_route context route request)
 
--- whose request it is, who asks, and the state
-abbrev pub context : List ℕ → Option (List ℕ) → State → Context
-context org caller state = record { org = org; caller = caller; state = state }
+-- whose request it is, who asks, and the full state
+abbrev pub context : List ℕ → Option (List ℕ) → FullState → Context
+context org caller state = record { org = org; caller = caller; state = state.state; files = state.files }
 
 -- the refusal of a POST to `/organizations` whose body names no organisation
 abbrev pub unnamed : Result Doc Refusal → Refusal
@@ -69,7 +70,7 @@ unnamed (Err refusal) = refusal
 -- the listing, which the operator alone may see. No organisation knows of another, so the step lists none:
 -- what the listing is answered, `Alone` says
 abbrev pub listed : Option (List ℕ) → Decided
-listed caller = unless (lacking (context [] caller None) (Operator permission.Read ∷ [])) (tells (shows (dict no_pairs)))
+listed caller = unless (lacking (context [] caller none) (Operator permission.Read ∷ [])) (tells (shows (dict no_pairs)))
 
 -- a request to `/organizations` that is of no organisation
 abbrev pub at_organisations : Option (List ℕ) → Verb → Body → Decided
@@ -80,7 +81,7 @@ at_organisations caller Delete body = refuse NotAllowed
 at_organisations caller Other body = refuse NotAllowed
 
 -- a request at its place
-abbrev pub at_place : Place → Request → State → Decided
+abbrev pub at_place : Place → Request → FullState → Decided
 at_place (Of org route) request state = within (context org request.caller state) route request
 at_place Organisations request state = at_organisations request.caller request.verb request.body
 at_place LeftOut request state = refuse NotImplemented
@@ -88,13 +89,13 @@ at_place NoRoute request state = refuse NotFound
 at_place NoMemory request state = refuse NotImplemented
 
 -- how a request is decided in a state
-abbrev pub decided : Request → State → Decided
+abbrev pub decided : Request → FullState → Decided
 decided request state = unless (head_refusal request) (at_place request.place request state)
 
 -- one request: its reply, and the moves that it makes
-abbrev pub step : Request → State → Outcome
+abbrev pub step : Request → FullState → Outcome
 step request state = outcome_of (decided request state).answer
 
 -- how many bodies of objects it looks at
-abbrev pub looks : Request → State → ℕ
+abbrev pub looks : Request → FullState → ℕ
 looks request state = (decided request state).looks

@@ -2,6 +2,7 @@
 
 ghost use Rattle.std.specs.Prelude.{◌≡◌, ◌&&◌, false, IfOk, None};
 ghost use Rattle.doc_tree.specs.Valid.{InOrder};
+ghost use Rattle.org_core.specs.FullStates.{none};
 ghost use Rattle.org_core.specs.Requests.{is_operator, org_of};
 ghost use Rattle.org_machine.specs.Alone as spec;
 ghost use Rattle.org_machine.specs.Alone.{States, OutsideAnswer};
@@ -60,7 +61,7 @@ pub fn serve_outside(alloc: Global, request: &Request) -> Reply
 fn answer(alloc: Global, request: &Request) -> Reply
     requires none { org_of request.now ≡ None }
     requires unlisted { spec.is_listing request.now ≡ false }
-    ensures { IsOrShort result (step request.now None).reply }
+    ensures { IsOrShort result (step request.now none).reply }
 {
     match head_refusal(request) {
         Some(refusal) => told(alloc, refusal),
@@ -72,7 +73,7 @@ fn answer(alloc: Global, request: &Request) -> Reply
 fn answer_unrefused(alloc: Global, request: &Request) -> Reply
     requires none { org_of request.now ≡ None }
     requires unlisted { request.now.place ≡ Place.Organisations → (is_get request.now.verb && is_operator request.now.caller) ≡ false }
-    ensures { IsOrShort result (outcome_of (at_place request.now.place request.now None).answer).reply }
+    ensures { IsOrShort result (outcome_of (at_place request.now.place request.now none).answer).reply }
 {
     match &request.place {
         Place::Of { org: _, route: _ } => unreachable!(),

@@ -9,6 +9,7 @@ ghost use Rattle.org_machine.specs.Steps as spec;
 
 use crate::order::{absence_refusal, answered_by};
 use access_routes::Access;
+use cookbook_routes::Cookbooks;
 use doc_tree::{NoMemory, Steps, Text};
 use object_routes::{DataBags, Organisations, PlainObjects};
 use org_core::{
@@ -67,9 +68,10 @@ fn at_route<F: Finder, L: Ledger>(
         }
         Route::Data(route) => answered_by(alloc, &DataBags, context, lent, route, request, steps),
         Route::Access(route) => answered_by(alloc, &Access, context, lent, route, request, steps),
-        Route::Cookbooks(_) | Route::Policies(_) | Route::Search(_) => {
-            Err(Stop::Refused(Refusal::NotImplemented))
+        Route::Cookbooks(route) => {
+            answered_by(alloc, &Cookbooks, context, lent, route, request, steps)
         }
+        Route::Policies(_) | Route::Search(_) => Err(Stop::Refused(Refusal::NotImplemented)),
     }
 }
 

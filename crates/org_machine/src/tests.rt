@@ -1,8 +1,11 @@
 //! What no clause says: the printed replies of the life of a node and of a bag, and that the calls
 //! succeed with ample memory.
 
-ghost use Rattle.std.specs.Prelude.{◌≡◌, ◌<◌, codes, IfOk, None, Some};
+ghost use Rattle.std.specs.Prelude.{◌≡◌, ◌<◌, ℕ, List, codes, IfOk, None, Some};
+ghost use Rattle.org_core.specs.FullStates.{full_in, MeetsFileConditions};
 ghost use Rattle.org_core.specs.Requests.{org_at, org_of};
+ghost use Rattle.sandboxes.specs.Files.{holding_of};
+ghost use Rattle.sandboxes.specs.Sandboxes.{nothing};
 
 use crate::outside::{is_listing, listing, serve_outside};
 use crate::serving::{prepare, serve, settle};
@@ -12,6 +15,7 @@ use org_core::{
     Reply, Request, Route,
 };
 use route_table::{Availability, Verb};
+use sandboxes::Files;
 use std::alloc::Global;
 use std::hash::RandomState;
 use std::marker::Brand;
@@ -77,35 +81,48 @@ fn on_acme(alloc: Global, verb: Verb, words: &str, body: &str) -> Result<Request
 fn replied<L: Ledger>(
     alloc: Global,
     state: &mut OrgState,
+    files: &mut Files,
     steps: &mut Steps<L>,
     verb: Verb,
     words: &str,
     body: &str,
 ) -> Result<String, Fail>
-    requires { state.old.name ≡ codes "acme" }
-    ensures { state.new.name ≡ codes "acme" }
+    requires name { state.old.name ≡ codes "acme" }
+    requires files { MeetsFileConditions (full_in state.old files.old) }
+    ensures name { state.new.name ≡ codes "acme" }
+    ensures files { MeetsFileConditions (full_in state.new files.new) }
 {
     let request = on_acme(alloc, verb, words, body)?;
-    shown(alloc, serve(alloc, state, &request, steps))
+    shown(alloc, serve(alloc, state, files, &request, steps))
 }
 
 /// Adds the replies to requests on `acme`, one after another.
 fn reply_all<L: Ledger>(
     alloc: Global,
     state: &mut OrgState,
+    files: &mut Files,
     steps: &mut Steps<L>,
     asked: &[(Verb, &str, &str)],
     told: &mut String,
 ) -> Result<(), Fail>
-    requires { state.old.name ≡ codes "acme" }
-    ensures { state.new.name ≡ codes "acme" }
+    requires name { state.old.name ≡ codes "acme" }
+    requires files { MeetsFileConditions (full_in state.old files.old) }
+    ensures name { state.new.name ≡ codes "acme" }
+    ensures files { MeetsFileConditions (full_in state.new files.new) }
 {
     for (verb, words, body) in asked {
-        let reply = replied(alloc, state, steps, *verb, words, body)?;
+        let reply = replied(alloc, state, files, steps, *verb, words, body)?;
         told.push_str(reply.as_str())?;
         told.push_str("\n")?;
     }
     Ok(())
+}
+
+/// Files of nobody.
+fn no_files(alloc: Global) -> Files
+    ensures { (name : List ℕ) → holding_of result name ≡ nothing }
+{
+    Files::none(alloc)
 }
 
 /// The replies to requests on `acme`, from no organisation on. What is large has one way out.
@@ -123,7 +140,8 @@ fn replies<L: Ledger>(
     let acme = Text::from_str(alloc, "acme")?;
     let mut steps: Steps<L> = Steps::begin(blank);
     let mut state = OrgState::none(alloc, hasher, acme);
-    reply_all(alloc, &mut state, &mut steps, asked, told)
+    let mut files = no_files(alloc);
+    reply_all(alloc, &mut state, &mut files, &mut steps, asked, told)
 }
 
 #[test]
@@ -178,15 +196,17 @@ fn a_node_and_a_bag_live_and_go(rt: HostRuntime) -> Result<(), Fail> {
 fn made<L: Ledger>(
     alloc: Global,
     state: &mut OrgState,
+    files: &mut Files,
     steps: &mut Steps<L>,
     create: &Request,
 ) -> (usize, bool, u16, bool)
-    requires { org_of create.now ≡ Some state.old.name }
+    requires of { org_of create.now ≡ Some state.old.name }
+    requires files { MeetsFileConditions (full_in state.old files.old) }
 {
-    let prepared = prepare(alloc, state, create, steps);
+    let prepared = prepare(alloc, state, files, create, steps);
     let moves = prepared.moves.len();
     let before = state.is_there();
-    let status = settle(state, prepared).status;
+    let status = settle(state, files, prepared).status;
     (moves, before, status, state.is_there())
 }
 
@@ -203,7 +223,8 @@ fn prepared<L: Ledger>(
     let acme = Text::from_str(alloc, "acme")?;
     let mut steps: Steps<L> = Steps::begin(blank);
     let mut state = OrgState::none(alloc, hasher, acme);
-    Ok(made(alloc, &mut state, &mut steps, &create))
+    let mut files = no_files(alloc);
+    Ok(made(alloc, &mut state, &mut files, &mut steps, &create))
 }
 
 #[test]

@@ -116,9 +116,9 @@ bags =
 -- sandboxes and files
 abbrev pub files : List Route
 files =
-    route (within (fixed (codes "sandboxes") ∷ [])) Sandboxes (post later ∷ [])
-    ∷ route (within (fixed (codes "sandboxes") ∷ any ∷ [])) Sandbox (put later ∷ [])
-    ∷ route (within (fixed (codes "files") ∷ any ∷ [])) File (put later ∷ get later ∷ [])
+    route (within (fixed (codes "sandboxes") ∷ [])) Sandboxes (post built ∷ [])
+    ∷ route (within (fixed (codes "sandboxes") ∷ any ∷ [])) Sandbox (put built ∷ [])
+    ∷ route (within (fixed (codes "files") ∷ any ∷ [])) File (put built ∷ get built ∷ [])
     ∷ []
 
 -- cookbooks, their artifacts, and the versions that a run list needs

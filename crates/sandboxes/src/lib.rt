@@ -17,5 +17,6 @@ pub use checksum::{Checksum, read_checksum};
 pub use fault::{Refused, SandFault};
 pub use files::Files;
 pub use hashed::Hashed;
+pub use id::sandbox_id;
 pub use stored::Stored;
 pub use sums::Sums;

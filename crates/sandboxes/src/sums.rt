@@ -50,6 +50,14 @@ impl Sums {
         Sums { items }
     }
 
+    /// Some checksums that are in the order of their bytes and without repeats, as they stand.
+    pub fn in_order(items: Vec<Checksum>) -> Sums
+        requires { IsRising items.items }
+        ensures { result ≡ items.items }
+    {
+        Sums { items }
+    }
+
     /// The checksums in the order of their bytes, as a slice that borrows them.
     pub fn as_slice(&self) -> &[Checksum]
         ensures value { result.now ≡ self.now }

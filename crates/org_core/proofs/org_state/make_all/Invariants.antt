@@ -1,5 +1,8 @@
 use Rattle.std.specs.Prelude.{◌≡◌}
-use Rattle.org_core.specs.Moves.{HasRoom, after_moves}
+use Rattle.sandboxes.specs.Files.{holding_of, spare_of, OthersStay}
+use Rattle.org_core.specs.FileMoves.{files_after}
+use Rattle.org_core.specs.Moves.{after_moves}
+use Rattle.org_core.specs.Rooms.{HasRoom}
 use Rattle.org_core.specs.States.{state_from, IsNobody}
 use Rattle.org_core.proofs.org_state.make_all.Given as goal
 
@@ -7,5 +10,8 @@ use Rattle.org_core.proofs.org_state.make_all.Given as goal
 abbrev pub invariant-loop-one : goal.invariant-loop-one
 invariant-loop-one l =
     (after_moves l.one-iterator.rest.items (state_from l.there l.objects l.groups) ≡ after_moves l.fn.moves (state_from l.fn.there l.fn.objects l.fn.groups))
-    × HasRoom l.one-iterator.rest.items l.objects l.groups
+    × HasRoom l.one-iterator.rest.items l.objects l.groups (spare_of l.files l.org)
     × IsNobody l.there l.objects l.groups
+    × (files_after l.org l.one-iterator.rest.items (state_from l.there l.objects l.groups) (holding_of l.files l.org)
+    ≡ files_after l.org l.fn.moves (state_from l.fn.there l.fn.objects l.fn.groups) (holding_of l.fn.files l.org))
+    × OthersStay l.org l.fn.files l.files

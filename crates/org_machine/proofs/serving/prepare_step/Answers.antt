@@ -1,5 +1,5 @@
 -- What was decided is done with room for it.
-use Rattle.org_core.specs.States.{state_in}
+use Rattle.org_core.specs.FullStates.{full_in}
 use Rattle.org_machine.specs.Steps.{decided}
 use Rattle.org_machine.proofs.OrderlyLemmas.{decided_orderly, found_orderly}
 use Rattle.org_machine.proofs.PreparedLemmas.{found_with_room}
@@ -7,9 +7,9 @@ use Rattle.org_machine.proofs.serving.prepare_step.Goals as goal
 
 pub returns-in-Ok-clause-done : goal.returns-in-Ok-clause-done
 returns-in-Ok-clause-done g c =
-    found_with_room c.in-Ok.prepared c.with_room.result (decided c.args.request.now (state_in c.args.state.now)) c.with_room.new.state c.args.steps.now c.decided.new.steps
+    found_with_room c.in-Ok.prepared c.with_room.result (decided c.args.request.now (full_in c.args.state.now c.args.files.now)) c.with_room.new.state _ c.args.steps.now c.decided.new.steps
     c.in-Ok.ensures.done c.in-Ok.ensures.looked c.with_room.ensures.room c.with_room.ensures.done
 
 pub with_room-requires : goal.with_room-requires
 with_room-requires g c =
-    found_orderly c.in-Ok.prepared (decided c.args.request.now (state_in c.args.state.now)) (decided_orderly c.args.request.now (state_in c.args.state.now)) c.in-Ok.ensures.done
+    found_orderly c.in-Ok.prepared (decided c.args.request.now (full_in c.args.state.now c.args.files.now)) (decided_orderly c.args.request.now (full_in c.args.state.now c.args.files.now)) c.in-Ok.ensures.done

@@ -1,22 +1,50 @@
 -- The organisation that `get_mut` lent is as the request left it, and each other as before.
-use Rattle.std.proofs.Common.{◌≡◌, Some, sym, ◌∙◌, rules}
-use Rattle.org_core.specs.States.{state_in}
-use Rattle.chefsite.proofs.ShardLemmas.{states-written, stays_there, there-written}
+use Rattle.std.proofs.Common.{◌≡◌, ◌≢◌, List, ℕ, Some, None, sym, ap, subst, ◌∙◌, rules}
+use Rattle.org_core.specs.FullStates.{FullState, full_in}
+use Rattle.org_core.specs.States.{Kept, state_in}
+use Rattle.sandboxes.specs.Files.{holding_of, OthersStay}
+use Rattle.chefsite.proofs.ShardLemmas.{states-written, stays_there, some_is, each-written, strangers-written}
 use Rattle.org_machine.specs.Marks.{mark_of}
-use Rattle.chefsite.specs.Organisations.{kept_at}
+use Rattle.chefsite.specs.Organisations.{kept_at, state_at}
 use Rattle.chefsite.proofs.shards.Shard.serve.Goals as goal
+
+-- one that is kept is there, and so has no conditions to meet as a stranger
+pub serve-requires-clause-files : goal.serve-requires-clause-files
+serve-requires-clause-files g c =
+    let was : kept_at c.args.self.now.organisations c.args.org.now ≡ Some c.in-Some.state.now = search rules in
+    λ none. absurd (c.args.self.now.there c.args.org.now c.in-Some.state.now was none)
 
 pub returns-in-Some-clause-states : goal.returns-in-Some-clause-states
 returns-in-Some-clause-states g c =
-    states-written c.args.self.now.organisations (c.get_mut.follows.lender c.serve.new.state) c.args.org.now c.serve.new.state (state_in c.in-Some.state.now) c.args.request.now c.serve.result
+    let was : kept_at c.args.self.now.organisations c.args.org.now ≡ Some c.in-Some.state.now = search rules in
+    let named : c.in-Some.state.now.name ≡ c.args.org.now = c.args.self.now.named c.args.org.now c.in-Some.state.now was in
+    let left_named : c.serve.new.state.name ≡ c.args.org.now = c.serve.ensures.name ∙ named in
+    states-written c.args.self.now.organisations (c.get_mut.follows.lender c.serve.new.state) c.args.self.now.files c.serve.new.files c.args.org.now (Some c.serve.new.state)
+    (full_in c.in-Some.state.now c.args.self.now.files) c.args.request.now c.serve.result
     ((c.get_mut.follows.holds c.serve.new.state).3 (search rules)).0
-    (search rules) c.requires c.serve.ensures.state
+    (subst (λ (name : List ℕ). OthersStay name c.args.self.now.files c.serve.new.files) named c.serve.ensures.others)
+    (λ i. record { state = state_at (was i); files = holding_of c.args.self.now.files (sym named i) })
+    c.requires
+    ((λ i. record { state = state_in c.serve.new.state; files = holding_of c.serve.new.files (sym left_named i) }) ∙ c.serve.ensures.state)
 
 -- what is kept is there as before, and so is the one that was served
 pub invariant_of-self-clause-there : goal.invariant_of-self-clause-there
 invariant_of-self-clause-there g c =
     let was : kept_at c.args.self.now.organisations c.args.org.now ≡ Some c.in-Some.state.now = search rules in
-    there-written c.args.self.now.organisations (c.get_mut.follows.lender c.serve.new.state) c.args.org.now c.serve.new.state
+    let there : state_in c.serve.new.state ≢ None =
+    λ gone. stays_there (mark_of c.serve.result) c.args.request.now (full_in c.in-Some.state.now c.args.self.now.files) (c.args.self.now.there c.args.org.now c.in-Some.state.now was)
+    (sym (ap (λ (full : FullState). full.state) c.serve.ensures.state) ∙ gone) in
+    each-written (λ name kept. state_in kept ≢ None) c.args.self.now.organisations (c.get_mut.follows.lender c.serve.new.state) c.args.org.now (Some c.serve.new.state)
     ((c.get_mut.follows.holds c.serve.new.state).3 (search rules)).0
-    (λ gone. stays_there (mark_of c.serve.result) c.args.request.now (state_in c.in-Some.state.now) (c.args.self.now.there c.args.org.now c.in-Some.state.now was) (sym c.serve.ensures.state ∙ gone))
+    (λ kept same. subst (λ (k : Kept). state_in k ≢ None) (some_is c.serve.new.state kept same) there)
     c.args.self.now.there
+
+-- and who isn't kept has no files, as before
+pub invariant_of-self-clause-strangers : goal.invariant_of-self-clause-strangers
+invariant_of-self-clause-strangers g c =
+    let was : kept_at c.args.self.now.organisations c.args.org.now ≡ Some c.in-Some.state.now = search rules in
+    let named : c.in-Some.state.now.name ≡ c.args.org.now = c.args.self.now.named c.args.org.now c.in-Some.state.now was in
+    strangers-written c.args.self.now.organisations (c.get_mut.follows.lender c.serve.new.state) c.args.self.now.files c.serve.new.files c.args.org.now (Some c.serve.new.state)
+    ((c.get_mut.follows.holds c.serve.new.state).3 (search rules)).0
+    (subst (λ (name : List ℕ). OthersStay name c.args.self.now.files c.serve.new.files) named c.serve.ensures.others)
+    (λ none. cc) c.args.self.now.strangers

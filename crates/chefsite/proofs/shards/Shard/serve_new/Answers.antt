@@ -1,12 +1,50 @@
--- What the request left of the organisation is the state under its name.
-use Rattle.std.proofs.Common.{◌∙◌, ap}
+-- What the request left of the organisation is kept under its name, if it is there.
+use Rattle.std.proofs.Common.{◌≡◌, ◌≢◌, List, ℕ, None, refl, sym, ap, subst, ◌∙◌}
+use Rattle.org_core.specs.FullStates.{full_in}
+use Rattle.org_core.specs.States.{state_in}
 use Rattle.org_machine.specs.Marks.{mark_of, after}
-use Rattle.chefsite.specs.Shards.{states_in}
-use Rattle.chefsite.proofs.ShardLemmas.{states-left}
+use Rattle.sandboxes.specs.Files.{holding_of, OthersStay}
+use Rattle.chefsite.specs.Organisations.{state_at, full_at, full_of, kept_if_there}
+use Rattle.chefsite.proofs.ShardLemmas.{states-written, state-if_there, there-if_there, named-if_there, gone-if_there, each-written, strangers-written}
 use Rattle.chefsite.proofs.shards.Shard.serve_new.Goals as goal
+
+-- nothing was kept of it, so it has no files
+pub serve-reply-requires-clause-files : goal.serve-reply-requires-clause-files
+serve-reply-requires-clause-files g c =
+    λ none. ap (holding_of c.args.self.now.files) c.requires.name ∙ c.args.self.now.strangers c.args.key c.requires.absent
 
 pub returns-clause-states : goal.returns-clause-states
 returns-clause-states g c =
-    states-left (states_in c.args.self.now) (states_in c.keep_if_there.new.self) c.args.key _ c.args.request.now c.serve-reply.result
-    c.keep_if_there.ensures c.requires.absent c.requires.of
-    (c.serve-reply.ensures.state ∙ ap (after (mark_of c.serve-reply.result) c.args.request.now) c.requires.none)
+    let left = c.serve-reply.new.state in
+    let files = c.serve-reply.new.files in
+    let named : left.name ≡ c.args.key = c.serve-reply.ensures.name ∙ c.requires.name in
+    let was : full_in c.args.state c.args.self.now.files ≡ full_at c.args.self.now.organisations c.args.self.now.files c.args.key =
+    λ i. record { state = (c.requires.none ∙ sym (ap state_at c.requires.absent)) i; files = holding_of c.args.self.now.files (c.requires.name i) } in
+    let is : full_of (kept_if_there left) (holding_of files c.args.key) ≡ full_in left files =
+    λ i. record { state = state-if_there left i; files = holding_of files (sym named i) } in
+    states-written c.args.self.now.organisations c.keep_if_there.new.organisations c.args.self.now.files files c.args.key (kept_if_there left)
+    (full_at c.args.self.now.organisations c.args.self.now.files c.args.key) c.args.request.now c.serve-reply.result
+    c.keep_if_there.ensures
+    (subst (λ (name : List ℕ). OthersStay name c.args.self.now.files files) c.requires.name c.serve-reply.ensures.others)
+    refl c.requires.of
+    (is ∙ c.serve-reply.ensures.state ∙ ap (after (mark_of c.serve-reply.result) c.args.request.now) was)
+
+pub invariant_of-self-clause-there : goal.invariant_of-self-clause-there
+invariant_of-self-clause-there g c =
+    each-written (λ name kept. state_in kept ≢ None) c.args.self.now.organisations c.keep_if_there.new.organisations c.args.key (kept_if_there c.serve-reply.new.state)
+    c.keep_if_there.ensures (there-if_there c.serve-reply.new.state) c.args.self.now.there
+
+pub invariant_of-self-clause-named : goal.invariant_of-self-clause-named
+invariant_of-self-clause-named g c =
+    each-written (λ name kept. kept.name ≡ name) c.args.self.now.organisations c.keep_if_there.new.organisations c.args.key (kept_if_there c.serve-reply.new.state)
+    c.keep_if_there.ensures (named-if_there c.serve-reply.new.state c.args.key (c.serve-reply.ensures.name ∙ c.requires.name)) c.args.self.now.named
+
+pub invariant_of-self-clause-strangers : goal.invariant_of-self-clause-strangers
+invariant_of-self-clause-strangers g c =
+    let left = c.serve-reply.new.state in
+    let files = c.serve-reply.new.files in
+    let named : left.name ≡ c.args.key = c.serve-reply.ensures.name ∙ c.requires.name in
+    strangers-written c.args.self.now.organisations c.keep_if_there.new.organisations c.args.self.now.files files c.args.key (kept_if_there left)
+    c.keep_if_there.ensures
+    (subst (λ (name : List ℕ). OthersStay name c.args.self.now.files files) c.requires.name c.serve-reply.ensures.others)
+    (λ none. ap (holding_of files) (sym named) ∙ c.serve-reply.ensures.files (gone-if_there left none)) c.args.self.now.strangers

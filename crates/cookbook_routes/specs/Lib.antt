@@ -1,0 +1,3 @@
+pub mod Sandboxes
+pub mod Files
+pub mod CookbookRules
