@@ -17,9 +17,9 @@ def message(method, target, body="", headers=OPERATOR):
     return ("%s %s HTTP/1.1\r\n%s%s\r\n" % (method, target, headers, size)).encode() + body
 
 
-def reply(status, body):
-    head = "HTTP/1.1 %d %s\r\nContent-Type: application/json\r\nContent-Length: %d\r\n\r\n"
-    return (head % (status, PHRASES[status], len(body)) + body).encode()
+def reply(status, body, form="application/json"):
+    head = "HTTP/1.1 %d %s\r\nContent-Type: %s\r\nContent-Length: %d\r\n\r\n"
+    return (head % (status, PHRASES[status], form, len(body)) + body).encode()
 
 
 def replies(text):
