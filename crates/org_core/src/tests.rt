@@ -72,6 +72,7 @@ fn each_refusal_has_its_status_and_text(rt: HostRuntime) -> Result<(), Fail> {
          400 {\"error\":[\"bad field name\"]}\n\
          404 {\"error\":[\"not found\"]}\n\
          403 {\"error\":[\"missing delete permission\"]}\n\
+         409 {\"error\":[\"sandbox count is at its end\"]}\n\
          409 {\"error\":[\"already exists\"]}\n\
          500 {\"error\":[\"out of memory\"]}\n"
     );
