@@ -49,7 +49,7 @@ const METHODS: &str = "/organizations => GET built, POST built
 /organizations/acme/groups/admins => GET built, PUT built, DELETE built
 /organizations/acme/data/b/_acl => GET built
 /organizations/acme/policies/p/_acl/read => PUT built
-/organizations/acme/files/1 => GET later, PUT later
+/organizations/acme/files/1 => GET built, PUT built
 /organizations/acme/search/node => GET later, POST later
 /organizations/acme/nowhere => none
 ";
