@@ -1,6 +1,6 @@
 //! Laws of the definitions, which need no code.
 
-ghost use Rattle.org_core.specs.Keeping.{IsOrderlyGroup, KeepsConditions, Someone};
+ghost use Rattle.org_core.specs.Keeping.{IsOrderlyGroup, KeepsConditions, PutsNoVersions, Someone};
 ghost use Rattle.access_routes.specs.AccessRules.{access_rules};
 
 /// The moves of these routes are orderly: who comes, comes first.
@@ -11,4 +11,9 @@ pub fn access_is_orderly()
 /// What these routes do for a caller whom the organisation knows keeps the conditions of its state.
 pub fn access_keeps_conditions()
     ensures { KeepsConditions Someone access_rules }
+{}
+
+/// These routes put no cookbook version in, so what cookbooks name stays.
+pub fn access_puts_no_versions()
+    ensures { PutsNoVersions access_rules }
 {}

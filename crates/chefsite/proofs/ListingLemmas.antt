@@ -1,5 +1,5 @@
 -- Which names a listing has: those that each shard adds, which are those of the organisations that are there.
-use Rattle.std.proofs.Common.{◌≡◌, ℕ, ◌+◌, ◌==◌, nat_lt, List, [], ◌∷◌, length, Bool, true, false, cond, ◌||◌, ◌&&◌, is_some, Some, None, Result, Ok, Err, IfOk, bytes_eq, nat_cmp, BTreeSet, refl, sym, ap, ◌∙◌, inl, inr, ◌⊎◌, arith, eqb→eq, subst}
+use Rattle.std.proofs.Common.{◌≡◌, ℕ, ◌+◌, ◌==◌, nat_lt, List, [], ◌∷◌, length, Bool, true, false, cond, ◌||◌, ◌&&◌, is_some, Some, Result, Ok, Err, IfOk, bytes_eq, nat_cmp, BTreeSet, refl, sym, ap, ◌∙◌, inl, inr, ◌⊎◌, arith, eqb→eq, subst}
 use Rattle.std.proofs.Math.Dec.{T}
 use Rattle.std.specs.List.{list_any, IsDistinct, AllByRecursion, slice_get}
 use Rattle.std.specs.List.Sorted.{IsStrictlySortedBy}

@@ -14,10 +14,11 @@ use Rattle.org_core.specs.declared.requests.Request.{Request}
 use Rattle.org_core.specs.Requests.{org_of, has_name}
 use Rattle.org_core.specs.declared.moves.Move.{Move}
 use Rattle.org_core.specs.Moves.{within, after_moves}
-use Rattle.org_core.specs.FullStates.{FullState, none}
+use Rattle.org_core.specs.FullStates.{FullState, MeetsFileConditions, none}
 use Rattle.org_core.specs.States.{Organisation, State, Kept, state_in}
+use Rattle.org_machine.proofs.FileKeepingLemmas.{after_keeps_files}
 use Rattle.sandboxes.specs.Files.{Kept as Parts, KeptByName, holding_of, OthersStay}
-use Rattle.sandboxes.specs.Sandboxes.{Holding, nothing}
+use Rattle.sandboxes.specs.Sandboxes.{Holding}
 use Rattle.org_machine.specs.Steps.{step}
 use Rattle.org_machine.specs.Marks.{Mark, served, short, down, mark_of, after}
 use Rattle.org_machine.specs.Serving.{state_then}
@@ -93,14 +94,6 @@ kept_has_name false kept name same k is = cc
 pub named-if_there : (kept : Kept) (name : List ℕ) → kept.name ≡ name → ForSome (kept_if_there kept) (λ k. k.name ≡ name)
 named-if_there kept name same = kept_has_name (is_some (state_in kept)) kept name same
 
--- where it isn't kept, it isn't there
-gone_if : (kept : Kept) (state : State) → cond (is_some state) (Some kept) None ≡ None → state ≡ None
-gone_if kept None is = refl
-gone_if kept (Some organisation) is = cc
-
-pub gone-if_there : (kept : Kept) → kept_if_there kept ≡ None → state_in kept ≡ None
-gone-if_there kept is = gone_if kept (state_in kept) is
-
 -- no move makes an organisation go
 moves_keep : (moves : List Move) (organisation : Organisation) → after_moves moves (Some organisation) ≢ None
 moves_keep [] organisation gone = absurd (cc)
@@ -150,22 +143,35 @@ each-written P before now org new put has were name =
     each_under (P name) (bytes_eq org name) (kept_at before name) (kept_at now name) new (put name)
     (λ same. subst (λ (n : List ℕ). ForSome new (P n)) ((bytes_decides org name).0 same) has) (were name)
 
--- under one name: who isn't kept has no files
-stranger_under : (own : Bool) (before now new : Option Kept) (had has left : Holding) → now ≡ cond own new before → (own ≡ true → has ≡ left) → (own ≡ false → has ≡ had)
-    → (new ≡ None → left ≡ nothing) → (before ≡ None → had ≡ nothing) → now ≡ None → has ≡ nothing
-stranger_under true before now new had has left put is_left stays gone were is = is_left refl ∙ gone (sym put ∙ is)
-stranger_under false before now new had has left put is_left stays gone were is = stays refl ∙ were (sym put ∙ is)
+-- under one name: a request leads from files that meet their conditions to files that do
+then_meets : (own : Bool) (request : Request) (reply : Reply) (full : FullState) → MeetsFileConditions full → MeetsFileConditions (cond own (after (mark_of reply) request full) full)
+then_meets true request reply full meets = after_keeps_files (mark_of reply) request full meets
+then_meets false request reply full meets = meets
 
--- who isn't kept has no files, once one more organisation was written with its files
-pub strangers-written : (before now : KeptOrganisations) (files_before files_now : KeptByName) (org : List ℕ) (new : Option Kept)
-    → ((name : List ℕ) → kept_at now name ≡ cond (bytes_eq org name) new (kept_at before name))
-    → OthersStay org files_before files_now
-    → (new ≡ None → holding_of files_now org ≡ nothing)
-    → ((name : List ℕ) → kept_at before name ≡ None → holding_of files_before name ≡ nothing)
-    → (name : List ℕ) → kept_at now name ≡ None → holding_of files_now name ≡ nothing
-strangers-written before now files_before files_now org new put stay gone were name =
-    stranger_under (bytes_eq org name) (kept_at before name) (kept_at now name) new (holding_of files_before name) (holding_of files_now name) (holding_of files_now org)
-    (put name) (files_own files_now org name) (files_other files_before files_now org name stay) gone (were name)
+-- the files of each organisation meet their conditions after a request
+pub conditions-written : (before now : KeptOrganisations) (files_before files_now : KeptByName) (org : List ℕ) (request : Request) (reply : Reply)
+    → ((name : List ℕ) → full_at now files_now name ≡ state_then name request reply (full_at before files_before name))
+    → org_of request ≡ Some org
+    → ((name : List ℕ) → MeetsFileConditions (full_at before files_before name))
+    → (name : List ℕ) → MeetsFileConditions (full_at now files_now name)
+conditions-written before now files_before files_now org request reply step is_org met name =
+    subst MeetsFileConditions (sym (step name ∙ state_then-known org name request reply (full_at before files_before name) is_org))
+    (then_meets (bytes_eq org name) request reply (full_at before files_before name) (met name))
+
+-- under one name: where the request leaves its own organisation as it was, each is as it was
+then_stays : (own : Bool) (request : Request) (reply : Reply) (at full : FullState) → (own ≡ true → at ≡ full) → after (mark_of reply) request full ≡ full → cond own (after (mark_of reply) request at) at ≡ at
+then_stays true request reply at full was stays = ap (after (mark_of reply) request) (was refl) ∙ stays ∙ sym (was refl)
+then_stays false request reply at full was stays = refl
+
+pub stays-written : (before now : KeptOrganisations) (files_before files_now : KeptByName) (org : List ℕ) (request : Request) (reply : Reply) (full : FullState)
+    → ((name : List ℕ) → full_at now files_now name ≡ state_then name request reply (full_at before files_before name))
+    → org_of request ≡ Some org
+    → full_at before files_before org ≡ full
+    → after (mark_of reply) request full ≡ full
+    → (name : List ℕ) → full_at now files_now name ≡ full_at before files_before name
+stays-written before now files_before files_now org request reply full step is_org had stays name =
+    step name ∙ state_then-known org name request reply (full_at before files_before name) is_org
+    ∙ then_stays (bytes_eq org name) request reply (full_at before files_before name) full (λ same. ap (full_at before files_before) (sym ((bytes_decides org name).0 same)) ∙ had) stays
 
 -- what a call that succeeds promises
 pub on_ok : {T E P : Type 0} (result : Result T E) → IsOk result → OnOk result P → P

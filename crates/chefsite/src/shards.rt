@@ -1,13 +1,14 @@
 //! The organisations of a site, kept in shards: the contract that a shard has is all that the
 //! theorem above stands on.
 
-ghost use Rattle.std.specs.Prelude.{◌≡◌, ◌≢◌, ℕ, List, Some, None, cond, bytes_eq};
+ghost use Rattle.std.specs.Prelude.{◌≡◌, ◌≢◌, ℕ, List, Some, None, cond, bytes_eq, true};
 ghost use Rattle.std.specs.Option.{ForSome};
 ghost use Rattle.org_core.specs.States.{state_in};
 ghost use Rattle.sandboxes.specs.Files.{holding_of};
 ghost use Rattle.sandboxes.specs.Sandboxes.{nothing, holding_code};
-ghost use base.Stored.{Coded-set};
-ghost use Rattle.chefsite.specs.Organisations.{kept_at, kept_if_there, HasRoomFor};
+ghost use base.Stored.{Coded-set, coded_bool};
+ghost use Rattle.org_core.specs.FullStates.{MeetsFileConditions, is_committed};
+ghost use Rattle.chefsite.specs.Organisations.{kept_at, full_at, kept_if_there, HasRoomFor};
 
 use crate::names::{add_name, is_shown};
 use doc_tree::{NoMemory, Steps, Text};
@@ -28,8 +29,8 @@ pub struct Shard {
     ghost named: { (name : List ℕ) → ForSome (kept_at organisations name) (λ kept. kept.name ≡ name) },
     // None is kept that isn't there, so what is asked of strangers costs no memory.
     ghost there: { (name : List ℕ) → ForSome (kept_at organisations name) (λ kept. state_in kept ≢ None) },
-    // And who isn't kept has no files.
-    ghost strangers: { (name : List ℕ) → kept_at organisations name ≡ None → holding_of files name ≡ nothing } by { λ one other i name none. Coded-set holding_code (holding_of files name) nothing (one name none) (other name none) i },
+    // And the files of each meet their conditions, so who isn't kept has none.
+    ghost conditions: { (name : List ℕ) → MeetsFileConditions (full_at organisations files name) } by { λ one other i name. record { nobody = λ none. Coded-set holding_code (holding_of files name) nothing ((one name).nobody none) ((other name).nobody none) i; named = λ cookbook version manifest sum at names. Coded-set coded_bool (is_committed (holding_of files name) sum) true ((one name).named cookbook version manifest sum at names) ((other name).named cookbook version manifest sum at names) i } },
 }
 
 /// The organisations of a shard, by their names.

@@ -1,13 +1,14 @@
-mod DoneLemmas
-mod EntryLemmas
-mod KeyLemmas
-mod LineLemmas
-mod MetadataLemmas
-mod PairLemmas
-mod PathLemmas
-mod PutLemmas
-mod ReadBackLemmas
-mod SegmentLemmas
-mod SoundLemmas
-mod SumLemmas
-mod WholeLemmas
+pub mod ArtifactLemmas
+pub mod DoneLemmas
+pub mod EntryLemmas
+pub mod KeyLemmas
+pub mod LineLemmas
+pub mod MetadataLemmas
+pub mod PairLemmas
+pub mod PathLemmas
+pub mod PutLemmas
+pub mod ReadBackLemmas
+pub mod SegmentLemmas
+pub mod SoundLemmas
+pub mod SumLemmas
+pub mod WholeLemmas

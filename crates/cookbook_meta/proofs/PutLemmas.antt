@@ -7,7 +7,7 @@ use Rattle.std.specs.List.{list_all}
 use Rattle.std.specs.Ordering.{match_ordering}
 use Rattle.doc_tree.specs.Doc.{Doc, pairs_of}
 use Rattle.doc_tree.specs.Part.{pair_at, with_pair}
-use Rattle.cookbook_meta.specs.Stored.{is_listed, is_unlisted, unlisted, with_pairs}
+use Rattle.cookbook_meta.specs.Stored.{beside, with_pairs}
 use Rattle.cookbook_meta.proofs.PairLemmas.{pair_at-own, pair_at-other}
 
 pub and_first : (a b : Bool) → IsTrue (a && b) → IsTrue a
@@ -54,27 +54,27 @@ at_own key d (p ∷ fields) made distinct is =
 
 -- ---- what is unlisted stays
 
-unlisted-at : (o : Ordering) (key : List ℕ) (d : Doc) (p : List ℕ × Doc) (ps after : List (List ℕ × Doc)) → is_listed key ≡ true → slice_cmp nat_cmp key p.0 ≡ o → unlisted after ≡ unlisted ps
-    → unlisted (match_ordering o ((key, d) ∷ p ∷ ps) ((p.0, d) ∷ ps) (p ∷ after)) ≡ unlisted (p ∷ ps)
-unlisted-at Less key d p ps after listed is later = ap (λ b. cond (not b) ((key, d) ∷ unlisted (p ∷ ps)) (unlisted (p ∷ ps))) listed
-unlisted-at Equal key d p ps after listed is later =
-    let here : is_listed p.0 ≡ true = subst (λ (k : List ℕ). is_listed k ≡ true) (slice_cmp-IsAntisymmetric nat_cmp-IsAntisymmetric key p.0 is) listed in
-    ap (λ b. cond (not b) ((p.0, d) ∷ unlisted ps) (unlisted ps)) here ∙ sym (ap (λ b. cond (not b) (p ∷ unlisted ps) (unlisted ps)) here)
-unlisted-at Greater key d p ps after listed is later = ap (λ (qs : List (List ℕ × Doc)). cond (is_unlisted p) (p ∷ qs) qs) later
+beside-at : (listed : List ℕ → Bool) (o : Ordering) (key : List ℕ) (d : Doc) (p : List ℕ × Doc) (ps after : List (List ℕ × Doc)) → listed key ≡ true → slice_cmp nat_cmp key p.0 ≡ o → beside listed after ≡ beside listed ps
+    → beside listed (match_ordering o ((key, d) ∷ p ∷ ps) ((p.0, d) ∷ ps) (p ∷ after)) ≡ beside listed (p ∷ ps)
+beside-at listed Less key d p ps after own is later = ap (λ b. cond (not b) ((key, d) ∷ beside listed (p ∷ ps)) (beside listed (p ∷ ps))) own
+beside-at listed Equal key d p ps after own is later =
+    let here : listed p.0 ≡ true = subst (λ (k : List ℕ). listed k ≡ true) (slice_cmp-IsAntisymmetric nat_cmp-IsAntisymmetric key p.0 is) own in
+    ap (λ b. cond (not b) ((p.0, d) ∷ beside listed ps) (beside listed ps)) here ∙ sym (ap (λ b. cond (not b) (p ∷ beside listed ps) (beside listed ps)) here)
+beside-at listed Greater key d p ps after own is later = ap (λ (qs : List (List ℕ × Doc)). cond (not (listed p.0)) (p ∷ qs) qs) later
 
-unlisted-put : (key : List ℕ) (d : Doc) (ps : List (List ℕ × Doc)) → is_listed key ≡ true → unlisted (with_pair key d ps) ≡ unlisted ps
-unlisted-put key d [] listed = ap (λ b. cond (not b) ((key, d) ∷ []) []) listed
-unlisted-put key d (p ∷ ps) listed = unlisted-at _ key d p ps (with_pair key d ps) listed refl (unlisted-put key d ps listed)
+beside-put : (listed : List ℕ → Bool) (key : List ℕ) (d : Doc) (ps : List (List ℕ × Doc)) → listed key ≡ true → beside listed (with_pair key d ps) ≡ beside listed ps
+beside-put listed key d [] own = ap (λ b. cond (not b) ((key, d) ∷ []) []) own
+beside-put listed key d (p ∷ ps) own = beside-at listed _ key d p ps (with_pair key d ps) own refl (beside-put listed key d ps own)
 
 -- where each field is listed, what is unlisted stays
-pub unlisted-puts : (fields made : List (List ℕ × Doc)) → IsTrue (list_all (λ (p : List ℕ × Doc). is_listed p.0) fields) → unlisted (with_pairs fields made) ≡ unlisted made
-unlisted-puts [] made all = refl
-unlisted-puts (p ∷ fields) made all = unlisted-puts fields (with_pair p.0 p.1 made) (and_second _ _ all) ∙ unlisted-put p.0 p.1 made (and_first _ _ all)
+pub beside-puts : (listed : List ℕ → Bool) (fields made : List (List ℕ × Doc)) → IsTrue (list_all (λ (p : List ℕ × Doc). listed p.0) fields) → beside listed (with_pairs fields made) ≡ beside listed made
+beside-puts listed [] made all = refl
+beside-puts listed (p ∷ fields) made all = beside-puts listed fields (with_pair p.0 p.1 made) (and_second _ _ all) ∙ beside-put listed p.0 p.1 made (and_first _ _ all)
 
-pub unlisted-twice : (ps : List (List ℕ × Doc)) → unlisted (unlisted ps) ≡ unlisted ps
-unlisted-twice [] = refl
-unlisted-twice (p ∷ ps) =
-    elim (is_unlisted p) as (λ b. is_unlisted p ≡ b → unlisted (cond b (p ∷ unlisted ps) (unlisted ps)) ≡ cond b (p ∷ unlisted ps) (unlisted ps)) [
-      | true ↦ λ own. ap (λ b. cond b (p ∷ unlisted (unlisted ps)) (unlisted (unlisted ps))) own ∙ ap (λ (qs : List (List ℕ × Doc)). p ∷ qs) (unlisted-twice ps)
-      | false ↦ λ own. unlisted-twice ps
+pub beside-twice : (listed : List ℕ → Bool) (ps : List (List ℕ × Doc)) → beside listed (beside listed ps) ≡ beside listed ps
+beside-twice listed [] = refl
+beside-twice listed (p ∷ ps) =
+    elim (not (listed p.0)) as (λ b. not (listed p.0) ≡ b → beside listed (cond b (p ∷ beside listed ps) (beside listed ps)) ≡ cond b (p ∷ beside listed ps) (beside listed ps)) [
+      | true ↦ λ own. ap (λ b. cond b (p ∷ beside listed (beside listed ps)) (beside listed (beside listed ps))) own ∙ ap (λ (qs : List (List ℕ × Doc)). p ∷ qs) (beside-twice listed ps)
+      | false ↦ λ own. beside-twice listed ps
     ] refl

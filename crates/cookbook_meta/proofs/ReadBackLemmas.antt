@@ -17,7 +17,7 @@ use Rattle.cookbook_meta.specs.Manifests.{manifest_in, manifest_from, metadata_o
 use Rattle.cookbook_meta.specs.Metadata.{stored_metadata}
 use Rattle.cookbook_meta.specs.Parts.{needed, truth_of, version_read}
 use Rattle.cookbook_meta.specs.Segments.{segments, segment_docs, with_segments}
-use Rattle.cookbook_meta.specs.Stored.{metadata_key, metadata_sent, stored_fields, unlisted, with_pairs, whole_of}
+use Rattle.cookbook_meta.specs.Stored.{head_keys, is_field, metadata_key, metadata_sent, stored_fields, unlisted, with_pairs, whole_of}
 use Rattle.cookbook_meta.specs.declared.entries.Entry.{Entry}
 use Rattle.cookbook_meta.specs.declared.fault.Flaw.TheVariants.{MissingField, NameDiffers}
 use Rattle.cookbook_meta.specs.declared.fault.MetaFault.{MetaFault}
@@ -25,7 +25,7 @@ use Rattle.cookbook_meta.specs.declared.manifests.Manifest.{Manifest}
 use Rattle.cookbook_meta.specs.declared.metadata.Metadata.{Metadata}
 use Rattle.cookbook_meta.proofs.DoneLemmas.{same_ok, field_done, field_is, keeps}
 use Rattle.cookbook_meta.proofs.MetadataLemmas.{metadata_again, stored_metadata-twice}
-use Rattle.cookbook_meta.proofs.PutLemmas.{at_own, unlisted-puts, unlisted-twice}
+use Rattle.cookbook_meta.proofs.PutLemmas.{at_own, beside-puts, beside-twice}
 use Rattle.cookbook_meta.proofs.SegmentLemmas.{read_again}
 
 -- ---- the steps of a manifest
@@ -55,17 +55,17 @@ steps_done (Ok t) (Ok f) (Ok own) (Err e) make m is = cc
 -- ---- what tells which cookbook's version it is
 
 -- at the key of each row stands what has its form
-abbrev AllStand : List Row → Pairs → Type 0
+abbrev pub AllStand : List Row → Pairs → Type 0
 AllStand rows body = AllByRecursion (λ (row : Row). (d : Doc) × (pair_at row.key body ≡ Some d) × (has_form row.form d ≡ Ok tt)) rows
 
-rows_again : (rows : List Row) (body : Pairs) → AllStand rows body → are_as_asked rows body ≡ Ok tt
+pub rows_again : (rows : List Row) (body : Pairs) → AllStand rows body → are_as_asked rows body ≡ Ok tt
 rows_again [] body all = refl
 rows_again (row ∷ rows) body all =
     ap (λ found. then_do (in_field row.key (is_as_asked row found)) (λ done. are_as_asked rows body)) all.0.1
     ∙ ap (λ r. then_do (in_field row.key r) (λ done. are_as_asked rows body)) all.0.2
     ∙ rows_again rows body all.1
 
-named_again : (name : List ℕ) → has_form (named name) (words name) ≡ Ok tt
+pub named_again : (name : List ℕ) → has_form (named name) (words name) ≡ Ok tt
 named_again name = keeps (bytes_eq name name) tt NameDiffers (nat_list_eq_equiv.refl name)
 
 same_itself : (v : Version) → same_version v v ≡ true
@@ -166,7 +166,7 @@ module _ (name : List ℕ) (version : Version) (body : Pairs) (read : reads_vers
       let own_metadata : stored_metadata (metadata_sent (pair_at metadata_key (pairs_of stored))) ≡ settled =
       ap (λ found. stored_metadata (metadata_sent found)) metadata_there ∙ stored_metadata-twice (metadata_sent (pair_at metadata_key body)) in
       let beside : unlisted (pairs_list (pairs_of stored)) ≡ unlisted (pairs_list body) =
-      ap unlisted (pairs_list-pairs_of stored) ∙ unlisted-puts fields (unlisted (pairs_list body)) refl ∙ unlisted-twice (pairs_list body) in
+      ap unlisted (pairs_list-pairs_of stored) ∙ beside-puts (is_field head_keys) fields (unlisted (pairs_list body)) refl ∙ beside-twice (is_field head_keys) (pairs_list body) in
       λ i. with_pairs (stored_fields name version frozen (own_metadata i) files) (beside i)
 
 -- the manifest that the steps make under a name and a version of a body

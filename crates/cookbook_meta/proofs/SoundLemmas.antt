@@ -64,9 +64,9 @@ sums_more (f ∷ files) e known all =
 -- ---- all entries
 
 -- entries of which each has a path of its own and a checksum
-record AreSound (files : List Entry) : Type 0 where
-  paths : HasOwnPaths files
-  sums : HasChecksums files
+pub record AreSound (files : List Entry) : Type 0 where
+  pub paths : HasOwnPaths files
+  pub sums : HasChecksums files
 
 sound_more : (files next : List Entry) (e : Entry) → is_checksum e.checksum ≡ true → with_entry files e ≡ Ok next → AreSound files → AreSound next
 sound_more files next e known put sound =
@@ -92,13 +92,13 @@ sound_segment : (segment : List ℕ) (found : Option Doc) (before next : List En
 sound_segment segment None before next is sound = subst AreSound (same_ok Flaw before next is) sound
 sound_segment segment (Some d) before next is sound = sound_list segment d before next is sound
 
-sound_segments : (names : List (List ℕ)) (body : Pairs) (before files : List Entry) → with_segments names body before ≡ Ok files → AreSound before → AreSound files
+pub sound_segments : (names : List (List ℕ)) (body : Pairs) (before files : List Entry) → with_segments names body before ≡ Ok files → AreSound before → AreSound files
 sound_segments [] body before files is sound = subst AreSound (same_ok MetaFault before files is) sound
 sound_segments (name ∷ names) body before files is sound =
     let here = then_done (in_field name (with_segment name (pair_at name body) before)) (with_segments names body) files is in
     sound_segments names body here.0 files here.2 (sound_segment name (pair_at name body) before here.0 (field_done name _ here.0 here.1) sound)
 
-no_entries : AreSound []
+pub no_entries : AreSound []
 unfolding IsDistinct
 no_entries = record { paths = tt; sums = refl }
 
@@ -111,7 +111,7 @@ same_parts v w same =
     let patch : v.patch ≡ w.patch = eqb-true v.patch w.patch (and_second (v.major == w.major && v.minor == w.minor) _ same) in
     λ i. record { major = major i; minor = minor i; patch = patch i }
 
-metadata_own : (name : List ℕ) (version : Version) (body : Pairs) (own : Metadata) → in_field metadata_key (then_do (needed metadata_key body) (metadata_of name version)) ≡ Ok own → (own.name ≡ name) × (own.version ≡ version)
+pub metadata_own : (name : List ℕ) (version : Version) (body : Pairs) (own : Metadata) → in_field metadata_key (then_do (needed metadata_key body) (metadata_of name version)) ≡ Ok own → (own.name ≡ name) × (own.version ≡ version)
 metadata_own name version body own is =
     let sent = then_done (needed metadata_key body) (metadata_of name version) own (field_done metadata_key _ own is) in
     let read = then_done (inside (metadata_from sent.0)) (of_release name version) own sent.2 in

@@ -58,16 +58,25 @@ are_as_asked (row ∷ rows) body = then_do (in_field row.key (is_as_asked row (p
 abbrev pub release_name : List ℕ → Version → List ℕ
 release_name name version = name ++ 45 ∷ version_text version
 
+-- the fields whose texts the format states
+abbrev pub stated_rows : List Row
+stated_rows =
+    may_be (codes "chef_type") (stated (codes "cookbook_version"))
+    ∷ may_be (codes "json_class") (stated (codes "Chef::CookbookVersion"))
+    ∷ []
+
 -- the fields that tell which cookbook's version a manifest is, in the order in which they are looked at
 abbrev pub rows : List ℕ → List ℕ → Version → List Row
 rows name release version =
     may_be (codes "cookbook_name") (named name)
     ∷ may_be (codes "name") (named release)
     ∷ must_be (codes "version") (released version)
-    ∷ may_be (codes "chef_type") (stated (codes "cookbook_version"))
-    ∷ may_be (codes "json_class") (stated (codes "Chef::CookbookVersion"))
-    ∷ []
+    ∷ stated_rows
 
 -- those fields under the path's name and version
 abbrev pub told_by : List ℕ → Version → List Row
 told_by name version = rows name (release_name name version) version
+
+-- the field that tells which artifact it is
+abbrev pub named_rows : List ℕ → List Row
+named_rows name = may_be (codes "name") (named name) ∷ []

@@ -8,6 +8,7 @@ pub mod Fields
 pub mod Rows
 pub mod Stored
 pub mod Manifests
+pub mod Artifacts
 pub mod Outcomes
 pub mod Checksums
 pub mod Identifiers

@@ -65,3 +65,7 @@ is_checksum text = length text == 32 && list_all is_lower_hex text
 -- a text that is a checksum
 abbrev pub checksum_of : Doc → Result (List ℕ) Flaw
 checksum_of d = then_do (text_of d) (λ text. keep_if (is_checksum text) text BadChecksum)
+
+-- 40 lower-case hexadecimal digits
+abbrev pub is_identifier : List ℕ → Bool
+is_identifier text = length text == 40 && list_all is_lower_hex text

@@ -1,5 +1,5 @@
 //! The fields of a manifest that tell which cookbook's version it is.
-ghost use Rattle.std.specs.Prelude.{◌≡◌, IfOk, Ok, map, option_map, string_bytes};
+ghost use Rattle.std.specs.Prelude.{◌≡◌, IfOk, Ok, codes, map, option_map, string_bytes};
 ghost use Rattle.doc_tree.specs.Doc.{pairs_of};
 ghost use Rattle.doc_tree.specs.Tree.{doc_of};
 ghost use Rattle.cookbook_meta.specs.Fields as spec;
@@ -58,17 +58,47 @@ pub(crate) fn told_by<'a>(name: &'a str, release: &'a str, version: Version) -> 
             must: true,
             form: Form::Released(version),
         },
-        Row {
-            key: "chef_type",
-            must: false,
-            form: Form::Stated("cookbook_version"),
-        },
-        Row {
-            key: "json_class",
-            must: false,
-            form: Form::Stated("Chef::CookbookVersion"),
-        },
+        chef_type(),
+        json_class(),
     ]
+}
+
+/// The field that tells which artifact it is.
+pub(crate) fn named_by(name: &str) -> [Row<'_>; 1]
+    ensures { map row_of result ≡ spec.named_rows name.now }
+{
+    [Row {
+        key: "name",
+        must: false,
+        form: Form::Named(name),
+    }]
+}
+
+/// The fields whose texts the format states.
+pub(crate) fn stated() -> [Row<'static>; 2]
+    ensures { map row_of result ≡ spec.stated_rows }
+{
+    [chef_type(), json_class()]
+}
+
+fn chef_type() -> Row<'static>
+    ensures { row_of result ≡ spec.may_be (codes "chef_type") (spec.stated (codes "cookbook_version")) }
+{
+    Row {
+        key: "chef_type",
+        must: false,
+        form: Form::Stated("cookbook_version"),
+    }
+}
+
+fn json_class() -> Row<'static>
+    ensures { row_of result ≡ spec.may_be (codes "json_class") (spec.stated (codes "Chef::CookbookVersion")) }
+{
+    Row {
+        key: "json_class",
+        must: false,
+        form: Form::Stated("Chef::CookbookVersion"),
+    }
 }
 
 /// Whether each field is as its row asks, or the fault of the first that isn't.

@@ -1,6 +1,7 @@
 //! Metadata and manifests of cookbook versions, and the identifier of a manifest.
 #![tactic(auto)]
 
+mod artifacts;
 mod entries;
 mod fault;
 mod fields;
@@ -16,9 +17,11 @@ mod stored;
 #[cfg(test)]
 mod tests;
 
+pub use artifacts::read_artifact;
 pub use entries::{Entries, Entry};
 pub use fault::MetaFault;
 pub use identifiers::identifier;
-pub use laws::manifests_read_back;
+pub use laws::{artifacts_read_back, manifests_read_back};
 pub use manifests::{Manifest, read_manifest};
 pub use metadata::{Metadata, read_metadata};
+pub use parts::is_identifier;

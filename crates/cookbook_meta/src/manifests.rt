@@ -87,7 +87,8 @@ fn manifest_in(
     })
 }
 
-fn metadata_at(
+/// The metadata that a body gives, which are those of this name and version.
+pub(crate) fn metadata_at(
     alloc: Global,
     body: &Fields,
     name: &Name,

@@ -148,3 +148,10 @@ fn is_lower_hex(byte: u8) -> bool
 {
     matches!(byte, b'0'..=b'9' | b'a'..=b'f')
 }
+
+/// Whether a text has the form of an artifact's identifier: 40 lower-case hexadecimal digits.
+pub fn is_identifier(text: &str) -> bool
+    ensures { result ≡ spec.is_identifier text.now }
+{
+    text.len() == 40 && are_lower_hex(text.as_bytes())
+}

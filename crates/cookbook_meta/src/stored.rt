@@ -28,6 +28,19 @@ static FIELDS: [&str; 7] = [
     "metadata",
 ];
 
+/// The keys that an artifact's body isn't kept at as it is, before its segments: those of the fields of an artifact, and
+/// `cookbook_name`, which it has no more.
+static ARTIFACT_FIELDS: [&str; 8] = [
+    "identifier",
+    "cookbook_name",
+    "name",
+    "version",
+    "chef_type",
+    "json_class",
+    "frozen?",
+    "metadata",
+];
+
 /// How many segments there are.
 const SEGMENTS: usize = 9;
 
@@ -44,22 +57,37 @@ pub(crate) fn whole_of(
     requires { release.now ≡ release_name name.now version }
     ensures { IfOk result (λ made. made ≡ spec.whole_of name.now version frozen files.now (pairs_of body.now)) }
 {
-    let mut made = unlisted(alloc, body)?;
+    let mut made = beside(alloc, body, fields())?;
     put_told(alloc, &mut made, name, version, release)?;
-    put_tree(alloc, &mut made, "frozen?", Tree::Bool(frozen))?;
-    let metadata = metadata_sent(alloc, body)?;
-    put_tree(alloc, &mut made, "metadata", Tree::Dict(metadata))?;
-    put_segments(alloc, &mut made, files)?;
+    put_settled(alloc, &mut made, frozen, files, body)?;
     Ok(made)
 }
 
-/// What a body has beside the fields.
-fn unlisted(alloc: Global, body: &Fields) -> Result<Fields, NoMemory>
-    ensures { IfOk result (λ made. made ≡ spec.unlisted body.now) }
+/// The stored object of an artifact whose body is this one.
+pub(crate) fn artifact_whole(
+    alloc: Global,
+    name: &Name,
+    version: Version,
+    id: &str,
+    frozen: bool,
+    files: &[Entry],
+    body: &Fields,
+) -> Result<Fields, NoMemory>
+    ensures { IfOk result (λ made. made ≡ spec.artifact_whole name.now version id.now frozen files.now (pairs_of body.now)) }
 {
-    let mut made = Fields::with_capacity(alloc, room_for(body))?;
+    let mut made = beside(alloc, body, artifact_fields())?;
+    put_artifact(alloc, &mut made, name, version, id)?;
+    put_settled(alloc, &mut made, frozen, files, body)?;
+    Ok(made)
+}
+
+/// What a body has beside the fields: these and the segments.
+fn beside(alloc: Global, body: &Fields, keys: &[&str]) -> Result<Fields, NoMemory>
+    ensures { IfOk result (λ made. made ≡ spec.beside (spec.is_field (map (λ s. s.now) keys.now)) body.now) }
+{
+    let mut made = Fields::with_capacity(alloc, room_for(body, keys))?;
     for field in body.as_slice() {
-        if !is_listed(field.key.as_str()) {
+        if !is_field(field.key.as_str(), keys) {
             made.push(field.key.copy(alloc)?, field.tree.copy(alloc)?)?;
         }
     }
@@ -67,25 +95,31 @@ fn unlisted(alloc: Global, body: &Fields) -> Result<Fields, NoMemory>
 }
 
 /// The number of keys of the stored object: those of the fields, and those that a body has beside them.
-fn room_for(body: &Fields) -> usize {
+fn room_for(body: &Fields, keys: &[&str]) -> usize {
     let beside = body.as_slice().iter();
     let unlisted = beside
-        .filter(|field| !is_listed(field.key.as_str()))
+        .filter(|field| !is_field(field.key.as_str(), keys))
         .count();
     unlisted.saturating_add(FIELDS.len() + SEGMENTS)
 }
 
-/// Whether a key is that of a field.
-fn is_listed(key: &str) -> bool
-    ensures { result ≡ spec.is_listed key.now }
+/// Whether a key is one of these or that of a segment.
+fn is_field(key: &str, keys: &[&str]) -> bool
+    ensures { result ≡ spec.is_field (map (λ s. s.now) keys.now) key.now }
 {
-    is_among(key, fields()) || is_among(key, segments())
+    is_among(key, keys) || is_among(key, segments())
 }
 
 fn fields() -> &'static [&'static str]
     ensures { map (λ s. s.now) result.now ≡ spec.head_keys }
 {
     &FIELDS
+}
+
+fn artifact_fields() -> &'static [&'static str]
+    ensures { map (λ s. s.now) result.now ≡ spec.artifact_keys }
+{
+    &ARTIFACT_FIELDS
 }
 
 fn is_among(key: &str, keys: &[&str]) -> bool
@@ -110,6 +144,40 @@ fn put_told(
     put_text(alloc, made, "version", version.to_string(alloc)?.as_str())?;
     put_text(alloc, made, "chef_type", "cookbook_version")?;
     put_text(alloc, made, "json_class", "Chef::CookbookVersion")
+}
+
+/// Puts in the fields that tell which artifact it is.
+fn put_artifact(
+    alloc: Global,
+    made: &mut Fields,
+    name: &Name,
+    version: Version,
+    id: &str,
+) -> Result<(), NoMemory>
+    ensures { OnOk result (made.new ≡ spec.with_pairs (spec.told_artifact name.now version id.now) made.old) }
+{
+    put_text(alloc, made, "name", name.as_str())?;
+    put_text(alloc, made, "version", version.to_string(alloc)?.as_str())?;
+    put_text(alloc, made, "chef_type", "cookbook_version")?;
+    put_text(alloc, made, "json_class", "Chef::CookbookVersion")?;
+    put_text(alloc, made, "identifier", id)
+}
+
+/// Puts in whether it is frozen, its metadata and its segments.
+fn put_settled(
+    alloc: Global,
+    made: &mut Fields,
+    frozen: bool,
+    files: &[Entry],
+    body: &Fields,
+) -> Result<(), NoMemory>
+    ensures { OnOk result (made.new ≡ spec.with_pairs (spec.settled_fields frozen (stored_metadata (spec.metadata_sent (pair_at spec.metadata_key (pairs_of body.now)))) files.now) made.old) }
+{
+    put_tree(alloc, made, "frozen?", Tree::Bool(frozen))?;
+    let metadata = metadata_sent(alloc, body)?;
+    put_tree(alloc, made, "metadata", Tree::Dict(metadata))?;
+    put_segments(alloc, made, files)?;
+    Ok(())
 }
 
 /// The metadata of a body, as they are stored.

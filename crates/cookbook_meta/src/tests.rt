@@ -1,7 +1,8 @@
 //! What no clause says: that the calls succeed, and that the definitions are those of the product. Each line has a body
 //! and what is read from it.
 use crate::{
-    Manifest, MetaFault, Metadata, identifier, manifests_read_back, read_manifest, read_metadata,
+    Manifest, MetaFault, Metadata, artifacts_read_back, identifier, manifests_read_back,
+    read_artifact, read_manifest, read_metadata,
 };
 use doc_tree::{Name, Text, Tree, json_text, read_json};
 use std::alloc::Global;
@@ -87,6 +88,30 @@ null => field cookbook_name hasn't its form
 {"name":0,"cookbook_name":0} => field cookbook_name hasn't its form
 "#;
 
+/// Bodies under the name `web` and an identifier, and the stored object or the fault.
+const ARTIFACTS: &str =
+    r#"{"identifier":"835740d5b5a679936fe7fb9e5d769bb2b0713ac5","metadata":{"name":"web","version":"1.0.0"},"version":"1.0.0"} => {"attributes":[],"chef_type":"cookbook_version","definitions":[],"files":[],"frozen?":false,"identifier":"835740d5b5a679936fe7fb9e5d769bb2b0713ac5","json_class":"Chef::CookbookVersion","libraries":[],"metadata":{"dependencies":{},"name":"web","version":"1.0.0"},"name":"web","providers":[],"recipes":[],"resources":[],"root_files":[],"templates":[],"version":"1.0.0"}
+{"identifier":"835740d5b5a679936fe7fb9e5d769bb2b0713ac5","name":"web","cookbook_name":"db","frozen?":true,"access":1,"metadata":{"name":"web","version":"1.0.0"},"version":"1.0.0","recipes":[{"name":"default.yml","path":"recipes/default.yml","checksum":"d41d8cd98f00b204e9800998ecf8427e"}]} => {"access":1,"attributes":[],"chef_type":"cookbook_version","definitions":[],"files":[],"frozen?":true,"identifier":"835740d5b5a679936fe7fb9e5d769bb2b0713ac5","json_class":"Chef::CookbookVersion","libraries":[],"metadata":{"dependencies":{},"name":"web","version":"1.0.0"},"name":"web","providers":[],"recipes":[{"checksum":"d41d8cd98f00b204e9800998ecf8427e","name":"default.yml","path":"recipes/default.yml","specificity":"default"}],"resources":[],"root_files":[],"templates":[],"version":"1.0.0"}
+[] => field name hasn't its form
+{"name":"web-1.0.0","identifier":"835740d5b5a679936fe7fb9e5d769bb2b0713ac5","metadata":{"name":"web","version":"1.0.0"},"version":"1.0.0"} => field name tells another name or version
+{"name":1,"identifier":"835740d5b5a679936fe7fb9e5d769bb2b0713ac5","metadata":{"name":"web","version":"1.0.0"},"version":"1.0.0"} => field name hasn't its form
+{} => field version is missing
+{"version":"1","identifier":"835740d5b5a679936fe7fb9e5d769bb2b0713ac5"} => field version is no version
+{"chef_type":"role","identifier":"835740d5b5a679936fe7fb9e5d769bb2b0713ac5","metadata":{"name":"web","version":"1.0.0"},"version":"1.0.0"} => field chef_type hasn't its form
+{"json_class":1,"identifier":"835740d5b5a679936fe7fb9e5d769bb2b0713ac5","metadata":{"name":"web","version":"1.0.0"},"version":"1.0.0"} => field json_class hasn't its form
+{"frozen?":1,"identifier":"835740d5b5a679936fe7fb9e5d769bb2b0713ac5","metadata":{"name":"web","version":"1.0.0"},"version":"1.0.0"} => field frozen? hasn't its form
+{"version":"1.0.0","identifier":"835740d5b5a679936fe7fb9e5d769bb2b0713ac5"} => field metadata is missing
+{"version":"1.0.1","identifier":"835740d5b5a679936fe7fb9e5d769bb2b0713ac5","metadata":{"name":"web","version":"1.0.0"}} => field metadata tells another name or version
+{"version":"1.0.0","identifier":"835740d5b5a679936fe7fb9e5d769bb2b0713ac5","metadata":{"name":"db","version":"1.0.0"}} => field metadata tells another name or version
+{"identifier":"835740d5b5a679936fe7fb9e5d769bb2b0713ac5","metadata":{"name":"web","version":"1.0.0"},"version":"1.0.0","files":[1]} => field files hasn't its form
+{"metadata":{"name":"web","version":"1.0.0"},"version":"1.0.0","root_files":1} => field root_files hasn't its form
+{"metadata":{"name":"web","version":"1.0.0"},"version":"1.0.0"} => field identifier is missing
+{"metadata":{"name":"web","version":"1.0.0"},"version":"1.0.0","identifier":1} => field identifier hasn't its form
+{"metadata":{"name":"web","version":"1.0.0"},"version":"1.0.0","identifier":"835740D5B5A679936FE7FB9E5D769BB2B0713AC5"} => field identifier hasn't its form
+{"metadata":{"name":"web","version":"1.0.0"},"version":"1.0.0","identifier":"835740d5b5a679936fe7fb9e5d769bb2b0713ac"} => field identifier hasn't its form
+{"metadata":{"name":"web","version":"1.0.0"},"version":"1.0.0","identifier":"0000000000000000000000000000000000000000"} => field identifier tells another name or version
+"#;
+
 /// Metadata, and what they tell or the fault.
 const METADATA: &str = r#"{"name":"web","version":"1.2"} => web 1.2.0
 {"version":"01.2.3","name":"web","dependencies":{"db":"~> 1.2","apt":"1.0.0"},"maintainer":[]} => web 1.2.3, apt = 1.0.0, db ~> 1.2
@@ -113,6 +138,7 @@ const SUMS: &str =
 #[derive(Clone, Copy)]
 enum Reading {
     Stored,
+    Artifact,
     Metadata,
     Sums,
 }
@@ -128,6 +154,14 @@ fn manifest(alloc: Global, tree: &Tree) -> Result<Result<Manifest, MetaFault>, F
         .ok_or("a name")?;
     let version = parse_version("1.0.0").ok().ok_or("a version")?;
     Ok(read_manifest(alloc, tree, &name, &version))
+}
+
+fn artifact(alloc: Global, tree: &Tree) -> Result<Result<Manifest, MetaFault>, Fail> {
+    let name = Name::of(Text::from_str(alloc, "web")?)
+        .ok()
+        .ok_or("a name")?;
+    let id = Text::from_str(alloc, "835740d5b5a679936fe7fb9e5d769bb2b0713ac5")?;
+    Ok(read_artifact(alloc, tree, &name, &id))
 }
 
 /// The stored object or the fault.
@@ -180,6 +214,7 @@ fn metadata_told(alloc: Global, read: Result<Metadata, MetaFault>) -> Result<Str
 fn told(alloc: Global, reading: Reading, tree: &Tree) -> Result<String, Fail> {
     match reading {
         Reading::Stored => stored(alloc, manifest(alloc, tree)?),
+        Reading::Artifact => stored(alloc, artifact(alloc, tree)?),
         Reading::Metadata => metadata_told(alloc, read_metadata(alloc, tree)),
         Reading::Sums => sums(alloc, manifest(alloc, tree)?),
     }
@@ -210,6 +245,14 @@ fn lines_otherwise(alloc: Global, reading: Reading, lines: &str) -> Result<Strin
 fn manifests_are_read_and_stored(rt: HostRuntime) -> Result<(), Fail> {
     manifests_read_back();
     let otherwise = lines_otherwise(rt.alloc(), Reading::Stored, MANIFESTS)?;
+    assert_eq!(rt; otherwise.as_str(), "");
+    Ok(())
+}
+
+#[test]
+fn artifacts_are_read_and_stored(rt: HostRuntime) -> Result<(), Fail> {
+    artifacts_read_back();
+    let otherwise = lines_otherwise(rt.alloc(), Reading::Artifact, ARTIFACTS)?;
     assert_eq!(rt; otherwise.as_str(), "");
     Ok(())
 }

@@ -1,3 +1,9 @@
+pub mod ReadLemmas
 pub mod KeepingLemmas
+pub mod FileKeepingLemmas
 pub mod OrderlyLemmas
 pub mod PlainLemmas
+pub mod ShelfLemmas
+pub mod MissingLemmas
+pub mod BackwardsLemmas
+pub mod ListingLemmas

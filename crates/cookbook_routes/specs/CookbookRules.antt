@@ -1,7 +1,9 @@
--- The rules of sandboxes and files. Those of cookbooks come with them: until then their routes are refused before.
-use Rattle.std.specs.Prelude.{ℕ, Bool, false, not, List, [], ◌∷◌, Option, Some, None, is_none, codes, Result, Ok, Err}
+-- The rules of cookbooks, sandboxes and files. What isn't built is refused before.
+use Rattle.std.specs.Prelude.{ℕ, Bool, true, false, not, ◌&&◌, List, [], ◌∷◌, Option, Some, None, is_none, is_some, codes, Result, Ok, Err}
 use Rattle.std.specs.FinMap as finite
 use Rattle.access_lists.specs.declared.perm.Perm.TheVariants as permission
+use Rattle.doc_tree.specs.Doc.{Doc}
+use Rattle.doc_tree.specs.Name.{is_name}
 use Rattle.doc_tree.specs.declared.kind.Kind.TheVariants as kinds
 use Rattle.object_store.specs.Objects.{key}
 use Rattle.route_table.specs.declared.verbs.Verb.{Verb}
@@ -9,21 +11,30 @@ use Rattle.route_table.specs.declared.verbs.Verb.TheVariants.{Get, Post, Put, De
 use Rattle.sandboxes.specs.Checksums.{checksum_in}
 use Rattle.sandboxes.specs.Sandboxes.{awaits}
 use Rattle.sandboxes.specs.Sums.{Sums}
-use Rattle.org_core.specs.Bodies.{document_in}
+use Rattle.shelves.specs.Shelves.{has_shelf}
+use Rattle.version_rules.specs.declared.versions.Version.{Version as VersionNumber}
+use Rattle.org_core.specs.Bodies.{absent, document_in}
 use Rattle.org_core.specs.Contexts.{Context}
+use Rattle.org_core.specs.FullStates.{is_committed}
 use Rattle.org_core.specs.Outcomes.{Decided}
 use Rattle.org_core.specs.Rules.{Rules}
+use Rattle.org_core.specs.States.{cookbooks_of}
 use Rattle.org_core.specs.declared.needs.Need.{Need}
 use Rattle.org_core.specs.declared.needs.Need.TheVariants.{Listed}
 use Rattle.org_core.specs.declared.refusals.Refusal.{Refusal}
 use Rattle.org_core.specs.declared.refusals.Refusal.TheVariants.{NotImplemented, NotFound, NotAllowed}
 use Rattle.org_core.specs.declared.requests.Body.{Body}
+use Rattle.org_core.specs.declared.requests.Parameter.{Parameter}
 use Rattle.org_core.specs.declared.routes.CookbookRoute.{CookbookRoute}
 use Rattle.org_core.specs.declared.routes.CookbookRoute.TheVariants.{Sandboxes, Sandbox, File, Cookbooks, Cookbook, Version, Universe, Artifacts, Artifact, SolvedVersions}
 use Rattle.cookbook_routes.specs.declared.operations.CookbookOperation.{CookbookOperation}
 use Rattle.cookbook_routes.specs.declared.operations.CookbookOperation.TheVariants as operation
+use Rattle.cookbook_routes.specs.declared.operations.Count.{Count}
+use Rattle.cookbook_routes.specs.declared.operations.Wanted.{Wanted}
 use Rattle.cookbook_routes.specs.Files.{file_in, digest_refusal, file_uploaded, file_shown}
-use Rattle.cookbook_routes.specs.Sandboxes.{sums_in, completion_refusal, is_committed, missing_refusal, sandbox_begun, sandbox_committed}
+use Rattle.cookbook_routes.specs.Listings.{count_asked, cookbooks_listed, cookbook_listed}
+use Rattle.cookbook_routes.specs.Sandboxes.{sums_in, completion_refusal, missing_refusal, sandbox_begun, sandbox_committed}
+use Rattle.cookbook_routes.specs.Versions.{is_forced, manifest_said, put_need, put_refusal, stored_at, version_in, version_put, version_removed, version_shown, wanted_in, wanted_of}
 
 -- to begin a sandbox of the checksums that were read
 abbrev pub beginning : Result Sums Refusal → Result CookbookOperation Refusal
@@ -76,36 +87,110 @@ file_asked sum Put body = put_file (checksum_in sum) body
 file_asked sum Delete body = Err NotAllowed
 file_asked sum Other body = Err NotAllowed
 
--- what is asked
-abbrev pub cookbook_asked : CookbookRoute → Verb → Body → Result CookbookOperation Refusal
-cookbook_asked Sandboxes verb body = sandboxes_asked verb body
-cookbook_asked (Sandbox id) verb body = sandbox_asked id verb body
-cookbook_asked (File sum) verb body = file_asked sum verb body
-cookbook_asked Cookbooks verb body = Err NotImplemented
-cookbook_asked (Cookbook name) verb body = Err NotImplemented
-cookbook_asked (Version name version) verb body = Err NotImplemented
-cookbook_asked Universe verb body = Err NotImplemented
-cookbook_asked Artifacts verb body = Err NotImplemented
-cookbook_asked (Artifact name id) verb body = Err NotImplemented
-cookbook_asked (SolvedVersions environment) verb body = Err NotImplemented
+-- to list the cookbooks, with the count that was read
+abbrev pub listing : Result Count Refusal → Result CookbookOperation Refusal
+listing (Ok count) = Ok (operation.ListCookbooks count)
+listing (Err refusal) = Err refusal
 
--- what the path names isn't there: a sandbox that is not yet committed, one that lists the checksum, or a committed file
+-- to show a version. Where the path asks for none, there is none
+abbrev pub showing_version : List ℕ → Option Wanted → Result CookbookOperation Refusal
+showing_version name None = Err NotFound
+showing_version name (Some wanted) = Ok (operation.ShowVersion name wanted)
+
+-- to put the manifest that was read
+abbrev pub putting : List ℕ → VersionNumber → Bool → Result Doc Refusal → Result CookbookOperation Refusal
+putting name version forced (Ok manifest) = Ok (operation.PutVersion name version manifest forced)
+putting name version forced (Err refusal) = Err refusal
+
+-- a PUT of a version. Where the path has a name or a version that hasn't its form, nobody can have made it
+abbrev pub put_version : Bool → List ℕ → Option VersionNumber → List Parameter → Body → Result CookbookOperation Refusal
+put_version true name (Some version) parameters body = putting name version (is_forced parameters) (manifest_said name version (document_in body))
+put_version true name None parameters body = Err (absent (document_in body))
+put_version false name version parameters body = Err (absent (document_in body))
+
+-- to remove a version. Where the path spells none, there is none
+abbrev pub removing_version : List ℕ → Option VersionNumber → Result CookbookOperation Refusal
+removing_version name None = Err NotFound
+removing_version name (Some version) = Ok (operation.RemoveVersion name version)
+
+-- what is asked of all cookbooks
+abbrev pub cookbooks_asked : Verb → List Parameter → Result CookbookOperation Refusal
+cookbooks_asked Get parameters = listing (count_asked parameters)
+cookbooks_asked Post parameters = Err NotAllowed
+cookbooks_asked Put parameters = Err NotAllowed
+cookbooks_asked Delete parameters = Err NotAllowed
+cookbooks_asked Other parameters = Err NotAllowed
+
+-- what is asked of a cookbook
+abbrev pub cookbook_by_name : List ℕ → Verb → Result CookbookOperation Refusal
+cookbook_by_name name Get = Ok (operation.ListVersions name)
+cookbook_by_name name Post = Err NotAllowed
+cookbook_by_name name Put = Err NotAllowed
+cookbook_by_name name Delete = Err NotAllowed
+cookbook_by_name name Other = Err NotAllowed
+
+-- what is asked of a version of a cookbook
+abbrev pub version_asked : List ℕ → List ℕ → Verb → List Parameter → Body → Result CookbookOperation Refusal
+version_asked name version Get parameters body = showing_version name (wanted_in version)
+version_asked name version Post parameters body = Err NotAllowed
+version_asked name version Put parameters body = put_version (is_name name) name (version_in version) parameters body
+version_asked name version Delete parameters body = removing_version name (version_in version)
+version_asked name version Other parameters body = Err NotAllowed
+
+-- what is asked
+abbrev pub cookbook_asked : CookbookRoute → Verb → List Parameter → Body → Result CookbookOperation Refusal
+cookbook_asked Sandboxes verb parameters body = sandboxes_asked verb body
+cookbook_asked (Sandbox id) verb parameters body = sandbox_asked id verb body
+cookbook_asked (File sum) verb parameters body = file_asked sum verb body
+cookbook_asked Cookbooks verb parameters body = cookbooks_asked verb parameters
+cookbook_asked (Cookbook name) verb parameters body = cookbook_by_name name verb
+cookbook_asked (Version name version) verb parameters body = version_asked name version verb parameters body
+cookbook_asked Universe verb parameters body = Err NotImplemented
+cookbook_asked Artifacts verb parameters body = Err NotImplemented
+cookbook_asked (Artifact name id) verb parameters body = Err NotImplemented
+cookbook_asked (SolvedVersions environment) verb parameters body = Err NotImplemented
+
+-- no cookbook has the name
+abbrev pub lacks_cookbook : Context → List ℕ → Bool
+lacks_cookbook context name = not (is_name name && has_shelf (cookbooks_of context.state) name)
+
+-- the cookbook has no version that is wanted
+abbrev pub lacks_wanted : Context → List ℕ → Wanted → Bool
+lacks_wanted context name wanted = not (is_name name && is_some (wanted_of context name wanted))
+
+-- the cookbook hasn't this version
+abbrev pub lacks_version : Context → List ℕ → VersionNumber → Bool
+lacks_version context name version = not (is_name name && is_some (stored_at context name version))
+
+-- what the path names isn't there: a sandbox that is not yet committed, one that lists the checksum, a committed file, a
+-- cookbook or a version of one. What is put needn't be there
 abbrev pub cookbook_lacks : Context → CookbookOperation → Bool
 cookbook_lacks context (operation.BeginSandbox sums) = false
 cookbook_lacks context (operation.CommitSandbox id) = is_none (finite.get context.files.sandboxes id)
 cookbook_lacks context (operation.Upload sum file) = not (awaits context.files sum)
 cookbook_lacks context (operation.ShowFile sum) = not (is_committed context.files sum)
+cookbook_lacks context (operation.ListCookbooks count) = false
+cookbook_lacks context (operation.ListVersions name) = lacks_cookbook context name
+cookbook_lacks context (operation.ShowVersion name wanted) = lacks_wanted context name wanted
+cookbook_lacks context (operation.PutVersion name version manifest forced) = false
+cookbook_lacks context (operation.RemoveVersion name version) = lacks_version context name version
 
--- the permission: in the list of the container `sandboxes`, and to read a file in that of `cookbooks`
-abbrev pub cookbook_need : CookbookOperation → Need
-cookbook_need (operation.BeginSandbox sums) = Listed permission.Create (key kinds.Container (codes "sandboxes"))
-cookbook_need (operation.CommitSandbox id) = Listed permission.Update (key kinds.Container (codes "sandboxes"))
-cookbook_need (operation.Upload sum file) = Listed permission.Create (key kinds.Container (codes "sandboxes"))
-cookbook_need (operation.ShowFile sum) = Listed permission.Read (key kinds.Container (codes "cookbooks"))
+-- the permission: in the list of the container `sandboxes`, to read a file and to list cookbooks in that of `cookbooks`, and
+-- else in the cookbook's own
+abbrev pub cookbook_need : Context → CookbookOperation → Need
+cookbook_need context (operation.BeginSandbox sums) = Listed permission.Create (key kinds.Container (codes "sandboxes"))
+cookbook_need context (operation.CommitSandbox id) = Listed permission.Update (key kinds.Container (codes "sandboxes"))
+cookbook_need context (operation.Upload sum file) = Listed permission.Create (key kinds.Container (codes "sandboxes"))
+cookbook_need context (operation.ShowFile sum) = Listed permission.Read (key kinds.Container (codes "cookbooks"))
+cookbook_need context (operation.ListCookbooks count) = Listed permission.Read (key kinds.Container (codes "cookbooks"))
+cookbook_need context (operation.ListVersions name) = Listed permission.Read (key kinds.Cookbook name)
+cookbook_need context (operation.ShowVersion name wanted) = Listed permission.Read (key kinds.Cookbook name)
+cookbook_need context (operation.PutVersion name version manifest forced) = put_need context name
+cookbook_need context (operation.RemoveVersion name version) = Listed permission.Delete (key kinds.Cookbook name)
 
 -- that permission alone
-abbrev pub cookbook_needs : CookbookOperation → List Need
-cookbook_needs operation = cookbook_need operation ∷ []
+abbrev pub cookbook_needs : Context → CookbookOperation → List Need
+cookbook_needs context operation = cookbook_need context operation ∷ []
 
 -- the refusal that stands. That the count is at its end is found where a sandbox begins
 abbrev pub cookbook_refusal : Context → CookbookOperation → Option Refusal
@@ -113,6 +198,11 @@ cookbook_refusal context (operation.BeginSandbox sums) = None
 cookbook_refusal context (operation.CommitSandbox id) = missing_refusal context.files id
 cookbook_refusal context (operation.Upload sum file) = digest_refusal sum file
 cookbook_refusal context (operation.ShowFile sum) = None
+cookbook_refusal context (operation.ListCookbooks count) = None
+cookbook_refusal context (operation.ListVersions name) = None
+cookbook_refusal context (operation.ShowVersion name wanted) = None
+cookbook_refusal context (operation.PutVersion name version manifest forced) = put_refusal context name version manifest forced
+cookbook_refusal context (operation.RemoveVersion name version) = None
 
 -- what is done
 abbrev pub cookbook_does : Context → CookbookOperation → Decided
@@ -120,13 +210,18 @@ cookbook_does context (operation.BeginSandbox sums) = sandbox_begun context sums
 cookbook_does context (operation.CommitSandbox id) = sandbox_committed context id
 cookbook_does context (operation.Upload sum file) = file_uploaded sum file
 cookbook_does context (operation.ShowFile sum) = file_shown context sum
+cookbook_does context (operation.ListCookbooks count) = cookbooks_listed context count
+cookbook_does context (operation.ListVersions name) = cookbook_listed context name
+cookbook_does context (operation.ShowVersion name wanted) = version_shown context name wanted
+cookbook_does context (operation.PutVersion name version manifest forced) = version_put context name version manifest
+cookbook_does context (operation.RemoveVersion name version) = version_removed context name version
 
 -- the rules of these routes
 abbrev pub cookbook_rules : Rules CookbookRoute CookbookOperation
 cookbook_rules = record {
-  operation = λ context route request. cookbook_asked route request.verb request.body;
+  operation = λ context route request. cookbook_asked route request.verb request.asked request.body;
   lacks = cookbook_lacks;
-  needs = λ context operation. cookbook_needs operation;
+  needs = cookbook_needs;
   own_refusal = cookbook_refusal;
   does = cookbook_does;
 }

@@ -14,9 +14,9 @@ use Rattle.org_core.specs.declared.refusals.Refusal.TheVariants.{NotJson, TooLar
 use Rattle.org_core.specs.declared.requests.Body.{Body}
 use Rattle.org_core.specs.declared.requests.Body.TheVariants.{Empty, Doc as Read, Bad, Raw, TooLong}
 
--- the file that a body is: one that was read as JSON is none
+-- the file that a body is: no body is the empty file, and one that was read as JSON is none
 abbrev pub file_in : Body → Result (List ℕ) Refusal
-file_in Empty = Err NotJson
+file_in Empty = Ok []
 file_in (Read tree) = Err NotJson
 file_in (Bad fault) = Err NotJson
 file_in (Raw file) = Ok file

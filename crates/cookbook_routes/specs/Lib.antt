@@ -1,3 +1,5 @@
 pub mod Sandboxes
 pub mod Files
+pub mod Listings
+pub mod Versions
 pub mod CookbookRules

@@ -1,6 +1,5 @@
 -- The routes of sandboxes.
 use Rattle.std.specs.Prelude.{ℕ, Bool, true, false, not, List, [], ◌∷◌, ◌++◌, map, Option, Some, None, option_and_then, codes, Result, Ok, Err, if◌then◌else◌}
-use Rattle.std.specs.FinMap as finite
 use Rattle.std.specs.List.{list_all}
 use Rattle.std.specs.Map.{keys_of}
 use Rattle.doc_tree.specs.Doc.{Doc, null, boolean, whole, words, list, dict, docs_of, pairs_of, pairs_list}
@@ -8,8 +7,8 @@ use Rattle.doc_tree.specs.Part.{part_at}
 use Rattle.sandboxes.specs.Checksums.{is_checksum}
 use Rattle.sandboxes.specs.Sandboxes.{Holding, is_at_end, missing, next_id, sums_of}
 use Rattle.sandboxes.specs.Sums.{Sums}
-use Rattle.sandboxes.specs.declared.stored.Stored.{Stored}
 use Rattle.org_core.specs.Contexts.{Context}
+use Rattle.org_core.specs.FullStates.{is_committed}
 use Rattle.org_core.specs.Outcomes.{Decided, makes, shows, does_by, refuse}
 use Rattle.org_core.specs.Refusals.{refuses}
 use Rattle.org_core.specs.Replies.{org_uri}
@@ -70,15 +69,6 @@ is_true_part (Some doc) = is_true doc
 abbrev pub completion_refusal : Result Doc Refusal → Option Refusal
 completion_refusal (Ok doc) = refuses (BadField (codes "is_completed")) (not (is_true_part (part_at (codes "is_completed") doc)))
 completion_refusal (Err refusal) = Some refusal
-
--- a file is there and committed
-abbrev pub is_committed_file : Option Stored → Bool
-is_committed_file None = false
-is_committed_file (Some stored) = stored.committed
-
--- a file of this checksum is there and committed
-abbrev pub is_committed : Holding → List ℕ → Bool
-is_committed holding sum = is_committed_file (finite.get holding.files sum)
 
 -- whether a file is still to be uploaded: where the organisation itself has no committed file of the checksum
 abbrev pub upload_doc : List ℕ → Holding → List ℕ → Doc

@@ -1,10 +1,11 @@
-//! The group of the routes of sandboxes and files.
+//! The group of the routes of cookbooks, sandboxes and files.
 
 ghost use Rattle.std.specs.Prelude.{◌≡◌, IfOk};
+ghost use Rattle.org_core.specs.Contexts.{seen};
 ghost use Rattle.cookbook_routes.specs.CookbookRules as spec;
 
 use crate::operations::CookbookOperation;
-use crate::{file_routes, sandbox_routes};
+use crate::{file_routes, listing_routes, sandbox_routes, version_routes};
 use access_lists::Perm;
 use doc_tree::{Kind, NoMemory, Steps};
 use org_core::{
@@ -14,7 +15,8 @@ use org_core::{
 use std::alloc::Global;
 use std::sync::ledger::Ledger;
 
-/// The group of the routes of sandboxes and files. Those of cookbooks are refused before anyone asks it.
+/// The group of the routes of cookbooks, sandboxes and files. Those that aren't built are refused before
+/// anyone asks it.
 #[derive(Clone, Copy, Debug)]
 pub struct Cookbooks;
 
@@ -40,10 +42,15 @@ impl Group for Cookbooks {
             CookbookRoute::Sandboxes => sandbox_routes::sandboxes_asked(alloc, verb, body),
             CookbookRoute::Sandbox(id) => sandbox_routes::sandbox_asked(alloc, id, verb, body),
             CookbookRoute::File(sum) => file_routes::file_asked(alloc, sum, verb, body),
-            CookbookRoute::Cookbooks
-            | CookbookRoute::Cookbook(_)
-            | CookbookRoute::Version(_, _)
-            | CookbookRoute::Universe
+            CookbookRoute::Cookbooks => {
+                listing_routes::cookbooks_asked(alloc, verb, request.asked.as_slice())
+            }
+            CookbookRoute::Cookbook(name) => listing_routes::cookbook_asked(alloc, name, verb),
+            CookbookRoute::Version(name, version) => {
+                let parameters = request.asked.as_slice();
+                version_routes::version_asked(alloc, name, version, verb, parameters, body)
+            }
+            CookbookRoute::Universe
             | CookbookRoute::Artifacts
             | CookbookRoute::Artifact(_, _)
             | CookbookRoute::SolvedVersions(_) => Err(Stop::Refused(Refusal::NotImplemented)),
@@ -62,18 +69,27 @@ impl Group for Cookbooks {
             CookbookOperation::CommitSandbox(id) => sandbox_routes::lacks_sandbox(context, id),
             CookbookOperation::Upload(sum, _) => file_routes::is_awaited_by_none(context, sum),
             CookbookOperation::ShowFile(sum) => file_routes::lacks_file(context, sum),
+            CookbookOperation::ListCookbooks(_) => false,
+            CookbookOperation::ListVersions(name) => version_routes::lacks_cookbook(context, name),
+            CookbookOperation::ShowVersion(name, wanted) => {
+                version_routes::lacks_wanted(context, name, *wanted)
+            }
+            CookbookOperation::PutVersion(_, _, _, _) => false,
+            CookbookOperation::RemoveVersion(name, version) => {
+                version_routes::lacks_version(context, name, *version)
+            }
         })
     }
 
     fn needs<F: Finder>(
         &self,
         alloc: Global,
-        _context: Context<'_>,
+        context: Context<'_>,
         _lent: &Lent<'_, F>,
         operation: &CookbookOperation,
     ) -> Result<Needs, NoMemory> {
         let mut needs = Needs::new(alloc);
-        needs.push(needed(alloc, operation)?)?;
+        needs.push(needed(alloc, context, operation)?)?;
         Ok(needs)
     }
 
@@ -89,7 +105,15 @@ impl Group for Cookbooks {
                 sandbox_routes::missing_refusal(alloc, context, id)
             }
             CookbookOperation::Upload(sum, file) => Ok(file_routes::digest_refusal(sum, file)),
-            CookbookOperation::BeginSandbox(_) | CookbookOperation::ShowFile(_) => Ok(None),
+            CookbookOperation::PutVersion(name, version, edition, forced) => {
+                version_routes::put_refusal(alloc, context, name, *version, edition, *forced)
+            }
+            CookbookOperation::BeginSandbox(_)
+            | CookbookOperation::ShowFile(_)
+            | CookbookOperation::ListCookbooks(_)
+            | CookbookOperation::ListVersions(_)
+            | CookbookOperation::ShowVersion(_, _)
+            | CookbookOperation::RemoveVersion(_, _) => Ok(None),
         }
     }
 
@@ -99,20 +123,39 @@ impl Group for Cookbooks {
         context: Context<'_>,
         _lent: &Lent<'_, F>,
         operation: CookbookOperation,
-        _steps: &mut Steps<L>,
+        steps: &mut Steps<L>,
     ) -> Result<Prepared, Stop> {
         match operation {
             CookbookOperation::BeginSandbox(sums) => sandbox_routes::begin(alloc, context, sums),
             CookbookOperation::CommitSandbox(id) => Ok(sandbox_routes::commit(alloc, context, id)?),
             CookbookOperation::Upload(sum, file) => Ok(file_routes::upload(alloc, sum, file)?),
             CookbookOperation::ShowFile(sum) => Ok(file_routes::show(alloc, context, &sum)?),
+            CookbookOperation::ListCookbooks(count) => {
+                Ok(listing_routes::list_cookbooks(alloc, context, count)?)
+            }
+            CookbookOperation::ListVersions(name) => {
+                Ok(listing_routes::list_versions(alloc, context, &name)?)
+            }
+            CookbookOperation::ShowVersion(name, wanted) => {
+                version_routes::show(alloc, context, &name, wanted, steps)
+            }
+            CookbookOperation::PutVersion(name, version, edition, _) => {
+                version_routes::put(alloc, context, name, version, edition, steps)
+            }
+            CookbookOperation::RemoveVersion(name, version) => {
+                version_routes::remove(alloc, context, name, version, steps)
+            }
         }
     }
 }
 
 /// The permission that an operation needs.
-fn needed(alloc: Global, operation: &CookbookOperation) -> Result<Need, NoMemory>
-    ensures { IfOk result (λ need. need ≡ spec.cookbook_need operation.now) }
+fn needed(
+    alloc: Global,
+    context: Context<'_>,
+    operation: &CookbookOperation,
+) -> Result<Need, NoMemory>
+    ensures { IfOk result (λ need. need ≡ spec.cookbook_need (seen context.entry) operation.now) }
 {
     match operation {
         CookbookOperation::BeginSandbox(_) | CookbookOperation::Upload(_, _) => {
@@ -121,8 +164,17 @@ fn needed(alloc: Global, operation: &CookbookOperation) -> Result<Need, NoMemory
         CookbookOperation::CommitSandbox(_) => {
             listed_need(alloc, Perm::Update, Kind::Container, "sandboxes")
         }
-        CookbookOperation::ShowFile(_) => {
+        CookbookOperation::ShowFile(_) | CookbookOperation::ListCookbooks(_) => {
             listed_need(alloc, Perm::Read, Kind::Container, "cookbooks")
+        }
+        CookbookOperation::ListVersions(name) | CookbookOperation::ShowVersion(name, _) => {
+            listed_need(alloc, Perm::Read, Kind::Cookbook, name.as_str())
+        }
+        CookbookOperation::PutVersion(name, _, _, _) => {
+            version_routes::put_need(alloc, context, name)
+        }
+        CookbookOperation::RemoveVersion(name, _) => {
+            listed_need(alloc, Perm::Delete, Kind::Cookbook, name.as_str())
         }
     }
 }

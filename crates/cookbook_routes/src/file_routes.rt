@@ -3,11 +3,11 @@
 ghost use Rattle.std.specs.Prelude.{◌≡◌, Ok, IfOk, not};
 ghost use Rattle.sandboxes.specs.Sandboxes.{awaits};
 ghost use Rattle.org_core.specs.Contexts.{seen};
+ghost use Rattle.org_core.specs.FullStates.{is_committed as spec_is_committed};
 ghost use Rattle.org_core.specs.Outcomes.{Finds};
 ghost use Rattle.org_core.specs.Refusals.{Tells};
 ghost use Rattle.cookbook_routes.specs.CookbookRules as rules;
 ghost use Rattle.cookbook_routes.specs.Files as spec;
-ghost use Rattle.cookbook_routes.specs.Sandboxes.{is_committed as spec_is_committed};
 
 use crate::operations::CookbookOperation;
 use crate::sandbox_routes::is_committed;
@@ -53,13 +53,14 @@ fn uploading(alloc: Global, sum: Option<Checksum>, body: &Body) -> Result<Cookbo
     }
 }
 
-// A copy of the file that a body is.
+// A copy of the file that a body is: the empty file where there is no body.
 fn file_in(alloc: Global, body: &Body) -> Result<Hashed, Stop>
     ensures { Tells result (spec.file_in body.now) }
 {
     match body {
         Body::Raw(file) => Ok(file.copy(alloc)?),
-        Body::Empty | Body::Doc(_) | Body::Bad(_) => Err(Stop::Refused(Refusal::NotJson)),
+        Body::Empty => Ok(Hashed::of(Bytes::constant(b""))),
+        Body::Doc(_) | Body::Bad(_) => Err(Stop::Refused(Refusal::NotJson)),
         Body::TooLong => Err(Stop::Refused(Refusal::TooLarge)),
     }
 }

@@ -1,12 +1,15 @@
-//! The rules of sandboxes and files: how a client brings the files of its cookbooks, and who reads them.
+//! The rules of cookbooks, sandboxes and files: how a client brings its cookbooks, and who reads them.
 #![tactic(auto)]
 
 mod cookbooks;
 mod file_routes;
 mod laws;
+mod listing_routes;
 mod operations;
 mod sandbox_routes;
+mod trees;
+mod version_routes;
 
 pub use cookbooks::Cookbooks;
 pub use laws::{cookbooks_are_orderly, cookbooks_keep_conditions};
-pub use operations::CookbookOperation;
+pub use operations::{CookbookOperation, Count, Wanted};

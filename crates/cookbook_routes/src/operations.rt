@@ -1,9 +1,30 @@
-//! What can be asked of sandboxes and files: one operation for each path and method of the table of
-//! routes, with all that the path and the body say.
+//! What can be asked of cookbooks, sandboxes and files: one operation for each path and method of the
+//! table of routes, with all that the path, the parameters and the body say.
 
+use cookbook_editions::Edition;
+use doc_tree::Text;
 use sandboxes::{Checksum, Hashed, Sums};
+use version_rules::Version;
 
-/// What can be asked of sandboxes and files.
+/// How many versions of each cookbook a listing shows, greatest first.
+#[derive(Clone, Copy, Debug, PartialEq, Eq)]
+pub enum Count {
+    /// All of them.
+    All,
+    /// At most so many.
+    Most(u64),
+}
+
+/// Which version of a cookbook is wanted.
+#[derive(Clone, Copy, Debug, PartialEq, Eq)]
+pub enum Wanted {
+    /// The greatest.
+    Latest,
+    /// This one.
+    Exactly(Version),
+}
+
+/// What can be asked of cookbooks, sandboxes and files.
 #[derive(Drop)]
 pub enum CookbookOperation {
     /// To begin a sandbox that lists these checksums.
@@ -14,4 +35,14 @@ pub enum CookbookOperation {
     Upload(Checksum, Hashed),
     /// To show the file of this checksum.
     ShowFile(Checksum),
+    /// To list the cookbooks, with so many versions of each.
+    ListCookbooks(Count),
+    /// To list all versions of this cookbook.
+    ListVersions(Text),
+    /// To show a version of this cookbook.
+    ShowVersion(Text, Wanted),
+    /// To put this manifest as a version of this cookbook, also over a frozen one where that is forced.
+    PutVersion(Text, Version, Edition, bool),
+    /// To remove a version of this cookbook.
+    RemoveVersion(Text, Version),
 }

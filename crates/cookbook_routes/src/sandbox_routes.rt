@@ -4,7 +4,7 @@ ghost use Rattle.std.specs.Prelude.{◌≡◌, None, Ok, IfOk, OnOk, not, codes,
 ghost use Rattle.std.specs.FinMap as finite;
 ghost use Rattle.std.specs.Map.{keys_of};
 ghost use Rattle.doc_tree.specs.Doc as docs;
-ghost use Rattle.doc_tree.specs.Part.{part_at, with_pair};
+ghost use Rattle.doc_tree.specs.Part.{part_at};
 ghost use Rattle.doc_tree.specs.Tree.{doc_of, pair_of};
 ghost use Rattle.doc_tree.specs.Valid.{InOrder};
 ghost use Rattle.sandboxes.specs.Files.{holding_of};
@@ -12,12 +12,14 @@ ghost use Rattle.sandboxes.specs.Sandboxes as holdings;
 ghost use Rattle.sandboxes.specs.Sums.{IsRising};
 ghost use Rattle.org_core.specs.Bodies as bodies;
 ghost use Rattle.org_core.specs.Contexts.{seen};
+ghost use Rattle.org_core.specs.FullStates.{is_committed as spec_is_committed};
 ghost use Rattle.org_core.specs.Outcomes.{Finds};
 ghost use Rattle.org_core.specs.Refusals.{Tells, refuses};
 ghost use Rattle.cookbook_routes.specs.CookbookRules as rules;
 ghost use Rattle.cookbook_routes.specs.Sandboxes as spec;
 
 use crate::operations::CookbookOperation;
+use crate::trees::put;
 use doc_tree::{Field, Fields, NoMemory, Text, Tree, Trees};
 use org_core::{
     Body, Context, FileMove, Move, Prepared, Refusal, Stop, document_in, joined, made, one_move,
@@ -270,7 +272,7 @@ fn upload_tree(alloc: Global, org: &Text, files: &Files, sum: &Checksum) -> Resu
 
 /// Whether an organisation has a committed file of this checksum.
 pub(crate) fn is_committed(org: &Text, files: &Files, sum: &Checksum) -> bool
-    ensures { result ≡ spec.is_committed (holding_of files.now org.now) sum.now }
+    ensures { result ≡ spec_is_committed (holding_of files.now org.now) sum.now }
 {
     match files.file(org, sum) {
         Some((_, committed)) => committed,
@@ -322,12 +324,6 @@ fn committed_tree(alloc: Global, id: &Checksum, sums: Tree) -> Result<Tree, NoMe
     put(alloc, &mut fields, "is_completed", Tree::Bool(true))?;
     put(alloc, &mut fields, "name", words(alloc, id)?)?;
     Ok(Tree::Dict(fields))
-}
-
-fn put(alloc: Global, fields: &mut Fields, key: &str, tree: Tree) -> Result<(), NoMemory>
-    ensures { OnOk result (fields.new ≡ with_pair key.now (doc_of tree) fields.old) }
-{
-    fields.put(Text::from_str(alloc, key)?, tree)
 }
 
 fn words(alloc: Global, sum: &Checksum) -> Result<Tree, NoMemory>

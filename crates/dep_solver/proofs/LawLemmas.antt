@@ -133,7 +133,7 @@ parts_before universe roots one other front p q longer r s below a b c d short =
     not_below_itself p.version (subst (λ (z : Pin). IsBelow z.version p.version) (second ∙ sym first) below)
 
 -- two solutions aren't each better than the other
-not_both : (universe : Universe) (roots : Roots) (one other : Choice) → IsBetter universe roots one other → IsBetter universe roots other one → ⊥
+pub not_both : (universe : Universe) (roots : Roots) (one other : Choice) → IsBetter universe roots one other → IsBetter universe roots other one → ⊥
 not_both universe roots one other x y = elim (three (length x.alike) (length y.alike)) [
   | inl short ↦ parts_before universe roots one other x.alike (pin x.name x.greater) (pin x.name x.less) y.alike (pin y.name y.greater) (pin y.name y.less) x.below x.one_walk x.other_walk y.one_walk y.other_walk short
   | inr h ↦ elim h [

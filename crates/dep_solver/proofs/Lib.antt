@@ -14,6 +14,14 @@ pub mod SeenLemmas
 pub mod RefusalLemmas
 pub mod DistinctLemmas
 pub mod SolvedLemmas
+pub mod SameLemmas
+pub mod TestLemmas
+pub mod FallingLemmas
+pub mod FirstLemmas
+pub mod EntryLemmas
+pub mod ChosenLemmas
+pub mod BestLemmas
+pub mod ConflictLemmas
 pub mod FindLemmas
 pub mod DeadLemmas
 pub mod LawLemmas

@@ -8,6 +8,7 @@ use Rattle.dep_solver.specs.declared.rules.EnvRules.{EnvRules}
 use Rattle.dep_solver.specs.declared.search.Place.{Place}
 use Rattle.dep_solver.specs.declared.universe.Release.{Release}
 use Rattle.dep_solver.specs.declared.universe.Universe.{Universe}
+use Rattle.dep_solver.specs.Conflicts.{IsStuck}
 use Rattle.dep_solver.specs.Names.{CookbookName}
 use Rattle.dep_solver.specs.Search.{AreNeverChosen, Begins, Chooses, FindsBest, Flags, Fits, GivesUp, IsGreatest, NoneFits, pin_of, seen}
 use Rattle.dep_solver.specs.declared.search.Search.{Search}
@@ -19,7 +20,7 @@ use Rattle.dep_solver.proofs.EndLemmas.{found_best}
 use Rattle.dep_solver.proofs.ListLemmas.{contains_map, in_tail, map_contains, nowhere}
 use Rattle.dep_solver.proofs.MeasureLemmas.{few_places, few_releases, left_to_try, release_count, try_falls, try_stays}
 use Rattle.dep_solver.proofs.ReleaseLemmas.{needs_at}
-use Rattle.dep_solver.proofs.SearchLemmas.{Goes, HasSearched, Sound, search_chooses, search_ends, search_gives_up, search_starts, sound_front, sound_none, sound_push}
+use Rattle.dep_solver.proofs.SearchLemmas.{Goes, HasSearched, NoneLeft, Sound, none_left, search_chooses, search_ends, search_gives_up, search_starts, sound_front, sound_none, sound_push}
 use Rattle.dep_solver.proofs.WalkLemmas.{names_distinct, with_needs-grows, with_places-append}
 
 -- where the release of a place stands, how many were tried, and how many names were reached before it
@@ -169,10 +170,9 @@ module _ (universe : Universe) (rules : EnvRules) (roots : Roots) (dead : Flags)
   none_goes names places given_up name releases s are none other r below e goes =
       none other r (subst (λ rs. other + given_up < length rs) (sym are) below) (ap (λ rs. slice_get rs other) are ∙ e) (goes_fits places name r s.kept goes)
 
-  pub gives_up : (names : List CookbookName) (places : List Place) (given_up : ℕ) (name : CookbookName) (releases : List Release) (front : List Place) (last : Place) (fewer : List CookbookName) → Searches universe rules roots names places given_up
-      → slice_get names (length places) ≡ Some name → releases ≡ releases_in universe name → NoneFits universe rules roots dead places name releases given_up
-      → places ≡ front ++ last ∷ [] → fewer ≡ take last.reached names → Searches universe rules roots fewer front last.tried
-  gives_up names places given_up name releases front last fewer s at are none split cut =
+  pub gives_up : (names : List CookbookName) (places : List Place) (given_up : ℕ) (front : List Place) (last : Place) (fewer : List CookbookName) → Searches universe rules roots names places given_up
+      → NoneLeft universe rules roots (map pin_of places) given_up → places ≡ front ++ last ∷ [] → fewer ≡ take last.reached names → Searches universe rules roots fewer front last.tried
+  gives_up names places given_up front last fewer s nobody split cut =
       let seen : map pin_of places ≡ map pin_of front ++ pin_of last ∷ [] = ap (map pin_of) split ∙ map_push pin_of front last in
       let kept = Kept-pop universe roots.names [] front last (subst (λ ps. Kept universe roots.names [] ps) split s.kept) in
       let own = kept.1 in
@@ -181,24 +181,26 @@ module _ (universe : Universe) (rules : EnvRules) (roots : Roots) (dead : Flags)
       s.named ∙ ap (with_places universe roots.names) seen ∙ with_places-append universe roots.names (map pin_of front) (pin_of last ∷ []) ∙ grows.behind in
       record {
         named = cut ∙ ap (take last.reached) all ∙ take_at (with_places universe roots.names (map pin_of front)) grows.rest last.reached (sym own.reached);
-        searched = search_gives_up universe rules roots dead never (map pin_of front) (pin_of last) last.release.now own.index last.tried given_up name
+        searched = search_gives_up universe rules roots (map pin_of front) (pin_of last) last.release.now own.index last.tried given_up
             (subst (λ ps. HasSearched universe rules roots ps given_up) seen s.searched)
             ((subst (λ ps. Sound universe rules roots ps) seen s.sound).follow)
-            own.stands refl own.counted
-            (ap (next universe roots.names) (sym seen) ∙ next_is universe rules roots names places given_up name s at)
-            (λ other r below e goes. none_goes names places given_up name releases s are none other r below e (subst (λ ps. Goes universe rules roots dead ps name r) (sym seen) goes));
+            own.stands refl own.counted (subst (λ ps. NoneLeft universe rules roots ps given_up) seen nobody);
         sound = sound_front universe rules roots (map pin_of front) (pin_of last ∷ []) (subst (λ ps. Sound universe rules roots ps) seen s.sound);
         kept = kept.0;
       }
 
-  pub fails : (names : List CookbookName) (places : List Place) (given_up : ℕ) (name : CookbookName) (releases : List Release) → Searches universe rules roots names places given_up
-      → slice_get names (length places) ≡ Some name → releases ≡ releases_in universe name → NoneFits universe rules roots dead places name releases given_up
-      → places ≡ [] → (choice : Choice) → IsSolution universe rules roots choice → ⊥
-  fails names places given_up name releases s at are none empty =
+  pub fails : (names : List CookbookName) (places : List Place) (given_up : ℕ) → Searches universe rules roots names places given_up → NoneLeft universe rules roots (map pin_of places) given_up → places ≡ []
+      → (choice : Choice) → IsSolution universe rules roots choice → ⊥
+  fails names places given_up s nobody empty =
       let seen : map pin_of places ≡ [] = ap (map pin_of) empty in
-      search_ends universe rules roots dead never given_up name (subst (λ ps. HasSearched universe rules roots ps given_up) seen s.searched)
-      (ap (next universe roots.names) (sym seen) ∙ next_is universe rules roots names places given_up name s at)
-      (λ other r below e goes. none_goes names places given_up name releases s are none other r below e (subst (λ ps. Goes universe rules roots dead ps name r) (sym seen) goes))
+      search_ends universe rules roots given_up (subst (λ ps. HasSearched universe rules roots ps given_up) seen s.searched) (subst (λ ps. NoneLeft universe rules roots ps given_up) seen nobody)
+
+  -- where the search is stuck, no solution is left
+  nobody_left : (names : List CookbookName) (places : List Place) (given_up : ℕ) (name : CookbookName) → Searches universe rules roots names places given_up → slice_get names (length places) ≡ Some name
+      → IsStuck universe rules roots dead places name given_up → NoneLeft universe rules roots (map pin_of places) given_up
+  nobody_left names places given_up name s at (inl none) =
+      none_left universe rules roots dead never (map pin_of places) given_up name (next_is universe rules roots names places given_up name s at) (none_goes names places given_up name (releases_in universe name) s refl none)
+  nobody_left names places given_up name s at (inr out) = λ choice solution left. out choice solution left.begins.versions
 
   pub chosen_nearer : (names : List CookbookName) (places : List Place) (given_up : ℕ) (name : CookbookName) (releases : List Release) (reached : ℕ) (place : Place) (more : List Place) → Searches universe rules roots names places given_up
       → slice_get names (length places) ≡ Some name → releases ≡ releases_in universe name → IsGreatest universe rules roots dead places name releases given_up reached place
@@ -235,12 +237,12 @@ module _ (universe : Universe) (rules : EnvRules) (roots : Roots) (dead : Flags)
       (chosen_nearer (seen old.names.items) old.places.items old.given_up name (releases_in universe name) (length (seen old.names.items)) place new.places.items s at refl greatest step.places)
 
   pub gave_up : (old new : Search) (name : CookbookName) → Searches universe rules roots (seen old.names.items) old.places.items old.given_up → slice_get (seen old.names.items) (length old.places.items) ≡ Some name
-      → NoneFits universe rules roots dead old.places.items name (releases_in universe name) old.given_up → GivesUp old new → Searches universe rules roots (seen new.names.items) new.places.items new.given_up
-  gave_up old new name s at none step =
+      → IsStuck universe rules roots dead old.places.items name old.given_up → GivesUp old new → Searches universe rules roots (seen new.names.items) new.places.items new.given_up
+  gave_up old new name s at stuck step =
       let names : seen new.names.items ≡ take step.last.reached (seen old.names.items) = ap seen step.names ∙ sym (take-map (λ (n : Bor Name). n.now) step.last.reached old.names.items) in
       subst (λ g. Searches universe rules roots (seen new.names.items) new.places.items g) (sym step.given_up)
-      (gives_up (seen old.names.items) old.places.items old.given_up name (releases_in universe name) new.places.items step.last (seen new.names.items) s at refl none step.places names)
+      (gives_up (seen old.names.items) old.places.items old.given_up new.places.items step.last (seen new.names.items) s (nobody_left (seen old.names.items) old.places.items old.given_up name s at stuck) step.places names)
 
   pub failed : (old : Search) (name : CookbookName) → Searches universe rules roots (seen old.names.items) old.places.items old.given_up → slice_get (seen old.names.items) (length old.places.items) ≡ Some name
-      → NoneFits universe rules roots dead old.places.items name (releases_in universe name) old.given_up → old.places.items ≡ [] → (choice : Choice) → IsSolution universe rules roots choice → ⊥
-  failed old name s at none empty = fails (seen old.names.items) old.places.items old.given_up name (releases_in universe name) s at refl none empty
+      → IsStuck universe rules roots dead old.places.items name old.given_up → old.places.items ≡ [] → (choice : Choice) → IsSolution universe rules roots choice → ⊥
+  failed old name s at stuck empty = fails (seen old.names.items) old.places.items old.given_up s (nobody_left (seen old.names.items) old.places.items old.given_up name s at stuck) empty

@@ -22,12 +22,12 @@ use Rattle.dep_solver.proofs.OrderLemmas.{three}
 use Rattle.dep_solver.proofs.ReleaseLemmas.{IsReleaseAt, before_from_below, needs_at, released_at, stands_before}
 use Rattle.dep_solver.proofs.WalkLemmas.{Follow-front, Follow-push, in_places, next_at}
 
-some_of : {X : Type 0} (o : Option X) → IsSome o → (x : X) × (o ≡ Some x)
+pub some_of : {X : Type 0} (o : Option X) → IsSome o → (x : X) × (o ≡ Some x)
 some_of None h = absurd (true≢false (sym h))
 some_of (Some x) h = (x, refl)
 
 -- a need that is met is met by the version that the choice has
-met_by : (choice : Choice) (need : Need) (version : Version) → IsMet choice need → finite.get choice need.name ≡ Some version → Meets version need.constraint
+pub met_by : (choice : Choice) (need : Need) (version : Version) → IsMet choice need → finite.get choice need.name ≡ Some version → Meets version need.constraint
 met_by choice need version met e = subst (λ v. Meets v need.constraint) (same_Some met.0 version (sym met.1 ∙ e)) met.2
 
 module _ (universe : Universe) (rules : EnvRules) (roots : Roots) where
@@ -230,24 +230,26 @@ module _ (universe : Universe) (rules : EnvRules) (roots : Roots) where
         ]
   ]
 
+  -- no solution is left that begins with the places
+  abbrev pub NoneLeft : List Pin → ℕ → Type 0
+  NoneLeft places given_up = (choice : Choice) → IsSolution universe rules roots choice → IsLeft places given_up choice → ⊥
+
   -- where no release goes, no solution is left
-  none_left : (dead : Flags) → AreNeverChosen universe rules roots dead → (places : List Pin) (given_up : ℕ) (name : CookbookName) (choice : Choice) → next universe roots.names places ≡ Some name
+  pub none_left : (dead : Flags) → AreNeverChosen universe rules roots dead → (places : List Pin) (given_up : ℕ) (name : CookbookName) → next universe roots.names places ≡ Some name
       → ((other : ℕ) (r : Release) → other + given_up < length (releases_in universe name) → slice_get (releases_in universe name) other ≡ Some r → Goes dead places name r → ⊥)
-      → IsSolution universe rules roots choice → IsLeft places given_up choice → ⊥
-  none_left dead never places given_up name choice at none solution left =
+      → NoneLeft places given_up
+  none_left dead never places given_up name at none choice solution left =
       let has = held choice places name solution left.begins.versions at in
       let found = left.untried name has.0 at has.1 in
       none found.index found.at.release found.left found.at.stands
       (solution_fits dead never choice places name found.at.release found.index solution left.begins.versions (has.1 ∙ ap Some (sym found.at.is)) found.at.stands)
 
-  pub search_gives_up : (dead : Flags) → AreNeverChosen universe rules roots dead → (front : List Pin) (p : Pin) (release : Release) (index tried given_up : ℕ) (name : CookbookName) → HasSearched (front ++ p ∷ []) given_up
+  pub search_gives_up : (front : List Pin) (p : Pin) (release : Release) (index tried given_up : ℕ) → HasSearched (front ++ p ∷ []) given_up
       → Follow universe roots.names [] (front ++ p ∷ []) → slice_get (releases_in universe p.name) index ≡ Some release → release.version ≡ p.version → index + tried ≡ length (releases_in universe p.name)
-      → next universe roots.names (front ++ p ∷ []) ≡ Some name
-      → ((other : ℕ) (r : Release) → other + given_up < length (releases_in universe name) → slice_get (releases_in universe name) other ≡ Some r → Goes dead (front ++ p ∷ []) name r → ⊥)
-      → HasSearched front tried
+      → NoneLeft (front ++ p ∷ []) given_up → HasSearched front tried
   unfolding HasSearched
-  search_gives_up dead never front p release index tried given_up name searched follow stands is counted at none choice solution = elim (searched choice solution) [
-    | inl left ↦ absurd (none_left dead never (front ++ p ∷ []) given_up name choice at none solution left)
+  search_gives_up front p release index tried given_up searched follow stands is counted nobody choice solution = elim (searched choice solution) [
+    | inl left ↦ absurd (nobody choice solution left)
     | inr passed ↦ elim (split_cases front p passed.alike passed.place passed.rest passed.split) [
       | inr h ↦ inr (record { alike = passed.alike; place = passed.place; rest = h.0; less = passed.less; split = h.1; below = passed.below; walk = passed.walk })
       | inl h ↦
@@ -275,11 +277,9 @@ module _ (universe : Universe) (rules : EnvRules) (roots : Roots) where
   nothing_split [] p rest e = cc
   nothing_split (a ∷ alike) p rest e = cc
 
-  pub search_ends : (dead : Flags) → AreNeverChosen universe rules roots dead → (given_up : ℕ) (name : CookbookName) → HasSearched [] given_up → next universe roots.names [] ≡ Some name
-      → ((other : ℕ) (r : Release) → other + given_up < length (releases_in universe name) → slice_get (releases_in universe name) other ≡ Some r → Goes dead [] name r → ⊥)
-      → (choice : Choice) → IsSolution universe rules roots choice → ⊥
+  pub search_ends : (given_up : ℕ) → HasSearched [] given_up → NoneLeft [] given_up → (choice : Choice) → IsSolution universe rules roots choice → ⊥
   unfolding HasSearched
-  search_ends dead never given_up name searched at none choice solution = elim (searched choice solution) [
-    | inl left ↦ none_left dead never [] given_up name choice at none solution left
+  search_ends given_up searched nobody choice solution = elim (searched choice solution) [
+    | inl left ↦ nobody choice solution left
     | inr passed ↦ nothing_split passed.alike passed.place passed.rest passed.split
   ]

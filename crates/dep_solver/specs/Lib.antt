@@ -3,6 +3,8 @@ pub mod Universes
 pub mod Solutions
 pub mod Walks
 pub mod Best
+pub mod Chosen
 pub mod Refusals
 pub mod Laws
 pub mod Search
+pub mod Conflicts

@@ -7,6 +7,7 @@ use Rattle.dep_solver.specs.declared.no_solution.NoSolution.TheVariants.{Unsolva
 use Rattle.dep_solver.specs.declared.roots.Roots.{Roots}
 use Rattle.dep_solver.specs.declared.rules.EnvRules.{EnvRules}
 use Rattle.dep_solver.specs.declared.universe.Universe.{Universe}
+use Rattle.dep_solver.specs.Chosen.{best_of, lacking, without_version}
 use Rattle.dep_solver.specs.Names.{CookbookName, name_cmp}
 use Rattle.dep_solver.specs.Solutions.{Choice, IsAllowed, IsSolution}
 use Rattle.dep_solver.specs.Universes.{cookbook_in}
@@ -35,3 +36,14 @@ pub record TellsWhy (universe : Universe) (rules : EnvRules) (roots : Roots) (no
 abbrev pub Tells : Universe → EnvRules → Roots → NoSolution → Type 0
 Tells universe rules roots NoMemory = Unit {0}
 Tells universe rules roots (Unsolvable no_cookbook no_version) = TellsWhy universe rules roots no_cookbook no_version
+
+-- there is no best solution, and the two lists are those of the functions
+pub record IsRefusal (universe : Universe) (rules : EnvRules) (roots : Roots) (no_cookbook no_version : List CookbookName) : Type 0 where
+  pub no_best : best_of universe rules roots ≡ None
+  pub no_cookbook_are : no_cookbook ≡ lacking universe roots
+  pub no_version_are : no_version ≡ without_version universe rules roots
+
+-- the one refusal that universe, rules and roots allow, or want of memory
+abbrev pub Refuses : Universe → EnvRules → Roots → NoSolution → Type 0
+Refuses universe rules roots NoMemory = Unit {0}
+Refuses universe rules roots (Unsolvable no_cookbook no_version) = IsRefusal universe rules roots no_cookbook no_version

@@ -47,7 +47,7 @@ pub(crate) fn greatest<'a>(
     None
 }
 
-fn fits(
+pub(crate) fn fits(
     universe: &Universe,
     rules: &EnvRules,
     roots: &Roots,
@@ -97,7 +97,7 @@ fn is_pin_met(pin: &Pin, name: &Name, version: &Version) -> bool
 }
 
 // The version meets each of the needs that is on the name.
-fn are_needs_met(needs: &[Need], name: &Name, version: &Version) -> bool
+pub(crate) fn are_needs_met(needs: &[Need], name: &Name, version: &Version) -> bool
     ensures { IsTrue result ↔ ((need : Need) → Contains needs.now need → need.name ≡ name.now → Meets version.now need.constraint) }
 {
     for need in needs {
@@ -138,7 +138,7 @@ fn do_places_meet(needs: &[Need], places: &[Place<'_>]) -> bool
     true
 }
 
-fn do_meet(need: &Need, places: &[Place<'_>]) -> bool
+pub(crate) fn do_meet(need: &Need, places: &[Place<'_>]) -> bool
     ensures { IsTrue result ↔ ((place : Place) → Contains places.now place → place.name.now ≡ need.now.name → Meets place.release.now.version need.now.constraint) }
 {
     for place in places {

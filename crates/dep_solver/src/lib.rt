@@ -2,6 +2,7 @@
 #![tactic(auto)]
 
 mod candidates;
+mod conflicts;
 mod dead;
 mod finding;
 mod laws;
@@ -9,13 +10,17 @@ mod no_solution;
 mod refusing;
 mod roots;
 mod rules;
+mod same;
 mod search;
 mod solved;
 #[cfg(test)]
 mod tests;
 mod universe;
 
-pub use laws::{best_is_none_better, one_is_better, places_fix_the_next, solutions_have_walks};
+pub use laws::{
+    best_is_none_better, best_of_is_the_best, lists_of_a_refusal, one_is_better,
+    places_fix_the_next, solutions_have_walks, test_of_allowed,
+};
 pub use no_solution::NoSolution;
 pub use roots::{Pin, Pins, Roots};
 pub use rules::EnvRules;

@@ -1,6 +1,6 @@
 //! What a refusal tells: which roots the universe lacks, and which have no version that can be chosen.
 ghost use Rattle.std.specs.Prelude.{◌↔◌, IfOk, IsTrue};
-ghost use Rattle.dep_solver.specs.Refusals.{AreThose, HasNoVersion, IsLacking, Tells};
+ghost use Rattle.dep_solver.specs.Refusals.{AreThose, HasNoVersion, IsLacking, Refuses, Tells};
 ghost use Rattle.dep_solver.specs.Solutions.{Choice, IsSolution};
 
 use crate::candidates::has_allowed;
@@ -20,7 +20,8 @@ pub(crate) fn unsolvable(
     roots: &Roots,
 ) -> Result<NoSolution, NoMemory>
     requires { (choice : Choice) → ¬ (IsSolution universe.now rules.now roots.now choice) }
-    ensures { IfOk result (Tells universe.now rules.now roots.now) }
+    ensures tells { IfOk result (Tells universe.now rules.now roots.now) }
+    ensures refuses { IfOk result (Refuses universe.now rules.now roots.now) }
 {
     let no_cookbook = lacking(alloc, universe, roots)?;
     let no_version = without_version(alloc, universe, rules, roots)?;

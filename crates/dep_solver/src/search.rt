@@ -3,6 +3,7 @@ ghost use Rattle.std.specs.Prelude.{◌≡◌, IfOk};
 ghost use Rattle.dep_solver.specs.Search.{Finds};
 
 use crate::candidates::greatest;
+use crate::conflicts::{Conflict, break_conflict, conflict_at};
 use crate::dead::never_chosen;
 use crate::finding::{Flags, releases_in};
 use crate::roots::Roots;
@@ -34,6 +35,7 @@ pub(crate) struct Search<'a> {
 ghost use Rattle.std.specs.Prelude.{OnOk, IfSome, map, Some, None, slice_get, length, option_map, MatchOption, MatchBool, []};
 ghost use Rattle.dep_solver.specs.Search.{AreNeverChosen, Begins, Chooses, FindsBest, pin_of, GivesUp, IsGreatest, NoneFits, seen};
 ghost use Rattle.dep_solver.specs.Universes.{releases_in};
+ghost use Rattle.dep_solver.specs.Conflicts.{AreConflicts, IsStuck};
 
 /// The places of the best solution's walk, or `None` exactly where there is no solution.
 ///
@@ -87,8 +89,10 @@ fn searched<'a>(
     ensures { IfOk result (Finds universe.now rules.now roots.now) }
 {
     let mut search = Search::begin(alloc, roots)?;
+    let mut conflicts = Vec::new(alloc);
     while let Some(name) = search.next_name() {
-        if let Some(place) = search.greatest_place(universe, rules, roots, dead, name) {
+        let next = search.next_place(alloc, universe, rules, roots, dead, &mut conflicts, name)?;
+        if let Some(place) = next {
             search.choose(place)?;
         } else if !search.give_up() {
             return Ok(None);
@@ -142,6 +146,41 @@ impl<'a> Search<'a> {
             self.given_up,
             reached,
         )
+    }
+
+    /// The place to take next, or `None` where no solution is left that has the places. What is learned then is put behind
+    /// the conflicts.
+    #[allow(clippy::too_many_arguments)]
+    fn next_place(
+        &self,
+        alloc: Global,
+        universe: &'a Universe,
+        rules: &EnvRules,
+        roots: &Roots,
+        dead: &Flags,
+        conflicts: &mut Vec<Conflict<'a>>,
+        name: &'a Name,
+    ) -> Result<Option<Place<'a>>, NoMemory>
+        requires never { AreNeverChosen universe.now rules.now roots.now dead.now }
+        requires learned { AreConflicts universe.now rules.now roots.now conflicts.old.items }
+        ensures learned { OnOk result (AreConflicts universe.now rules.now roots.now conflicts.new.items) }
+        ensures place { IfOk result (λ found. MatchOption found
+            (IsStuck universe.now rules.now roots.now dead.now self.now.places.items name.now self.now.given_up)
+            (IsGreatest universe.now rules.now roots.now dead.now self.now.places.items name.now (releases_in universe.now name.now) self.now.given_up (length (seen self.now.names.items)))) }
+    {
+        let places = self.places.as_slice();
+        if break_conflict(places, conflicts.as_slice()) {
+            return Ok(None);
+        }
+        if let Some(place) = self.greatest_place(universe, rules, roots, dead, name) {
+            return Ok(Some(place));
+        }
+        let known = conflicts.as_slice();
+        let learned = conflict_at(alloc, universe, rules, roots, dead, known, places, name)?;
+        if let Some(conflict) = learned {
+            conflicts.push(conflict)?;
+        }
+        Ok(None)
     }
 
     /// Takes a place, and puts what its release needs behind the names.

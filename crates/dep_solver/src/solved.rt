@@ -26,8 +26,19 @@ pub struct Solved {
     pub ghost in_order: { IsStrictlySortedBy name_cmp (map (λ pin. pin.name) chosen) } by { Prim.hlevel props },
 }
 
-ghost use Rattle.std.specs.Prelude.{◌≡◌, IfErr, IfOk};
-ghost use Rattle.dep_solver.specs.Refusals.{Tells};
+impl Solved {
+    ghost use Rattle.std.specs.Prelude.{◌≡◌, Some};
+    ghost use Rattle.dep_solver.specs.Chosen.{best_of};
+
+    /// What was chosen is what `best_of` gives of the universe, the rules and the roots. It does nothing.
+    pub fn is_best(&self)
+        ensures { best_of self.now.universe self.now.rules self.now.roots ≡ Some self.now.chosen }
+    {}
+}
+
+ghost use Rattle.std.specs.Prelude.{◌≡◌, IfErr, IfOk, Some};
+ghost use Rattle.dep_solver.specs.Chosen.{best_of};
+ghost use Rattle.dep_solver.specs.Refusals.{Refuses, Tells};
 
 /// The best solution: a version for each root and for all that is needed, such that each version meets the pins, the
 /// rules and every need, and at the first place where another solution differs, in the order of the walk, this one has the
@@ -44,7 +55,9 @@ pub fn solve(
     ensures universe { IfOk result (λ solved. solved.universe ≡ universe.now) }
     ensures rules { IfOk result (λ solved. solved.rules ≡ rules.now) }
     ensures roots { IfOk result (λ solved. solved.roots ≡ roots.now) }
+    ensures chosen { IfOk result (λ solved. best_of universe.now rules.now roots.now ≡ Some solved.chosen) }
     ensures refusal { IfErr result (Tells universe.now rules.now roots.now) }
+    ensures refuses { IfErr result (Refuses universe.now rules.now roots.now) }
 {
     match best_places(alloc, universe, rules, roots)? {
         Some(places) => with_copies(alloc, universe, rules, roots, &places),
@@ -67,7 +80,9 @@ fn with_copies(
     ensures universe { IfOk result (λ solved. solved.universe ≡ universe.now) }
     ensures rules { IfOk result (λ solved. solved.rules ≡ rules.now) }
     ensures roots { IfOk result (λ solved. solved.roots ≡ roots.now) }
+    ensures chosen { IfOk result (λ solved. best_of universe.now rules.now roots.now ≡ Some solved.chosen) }
     ensures refusal { IfErr result (Tells universe.now rules.now roots.now) }
+    ensures refuses { IfErr result (Refuses universe.now rules.now roots.now) }
 {
     let chosen = in_byte_order(alloc, places)?;
     let universe = universe.copy(alloc)?;

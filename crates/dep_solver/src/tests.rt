@@ -36,6 +36,15 @@ const SOLUTIONS: &str =
 [{"k":{"1.2.2":{},"1.2.3":{},"1.2.9":{},"1.3.0":{}},"r":{"1.0.0":{"k":"~> 1.2.3"}}}, {"k":"< 1.2.3"}, ["r"]] => none () ()
 "#;
 
+// Twice cookbooks, an environment's rules and roots, and which of the three are the same.
+const PAIRS: &str =
+    r#"[[{"a":{"1.0.0":{"b":"~> 1.2"}}}, {"b":"= 1.0.0"}, ["a","b@1.0.0"]], [{"a":{"1.0.0":{"b":"~> 1.2"}}}, {"b":"= 1.0.0"}, ["a","b@1.0.0"]]] => true true true
+[[{"a":{"1.0.0":{"b":"~> 1.2"}}}, {"b":"= 1.0.0"}, ["a","b@1.0.0"]], [{"a":{"1.0.0":{"b":"~> 1.2.0"}}}, {"b":"< 1.0.0"}, ["a","b@1.0.1"]]] => false false false
+[[{"a":{"1.0.0":{}}}, {}, ["a","b"]], [{"a":{"1.0.0":{},"2.0.0":{}}}, {"b":"= 1.0.0"}, ["b","a"]]] => false false false
+[[{"a":{"1.0.0":{}}}, {"b":"= 1.0.0"}, ["a"]], [{"a":{"1.0.1":{}}}, {"b":"= 1.0.0"}, ["a"]]] => false true true
+[[{}, {"b":"= 1.0.0"}, []], [{}, {"c":"= 1.0.0"}, []]] => true false true
+"#;
+
 fn name(alloc: Global, text: &str) -> Result<Name, Fail> {
     Ok(Name::of(Text::from_str(alloc, text)?).ok().ok_or("a name")?)
 }
@@ -138,7 +147,10 @@ fn chosen_text(alloc: Global, solved: &Solved) -> Result<String, AllocError> {
 
 fn told(alloc: Global, answer: Result<Solved, NoSolution>) -> Result<String, AllocError> {
     match answer {
-        Ok(solved) => chosen_text(alloc, &solved),
+        Ok(solved) => {
+            solved.is_best();
+            chosen_text(alloc, &solved)
+        }
         Err(
             NoSolution::Unsolvable {
                 no_cookbook,
@@ -153,34 +165,71 @@ fn told(alloc: Global, answer: Result<Solved, NoSolution>) -> Result<String, All
     }
 }
 
-fn solution(alloc: Global, json: &str) -> Result<String, Fail> {
-    let tree = read_json(alloc, json.as_bytes()).ok().ok_or("JSON")?;
-    let Tree::List(parts) = &tree else {
-        return Ok(String::new(alloc));
-    };
-    let [cookbooks, rules, Tree::List(roots)] = parts.as_slice() else {
-        return Ok(String::new(alloc));
-    };
-    let universe = universe_in(alloc, cookbooks)?;
-    let rules = EnvRules {
-        rules: needs_in(alloc, rules)?,
-    };
-    let roots = roots_in(alloc, roots)?;
-    Ok(told(alloc, solve(alloc, &universe, &rules, &roots))?)
+// What is asked: the cookbooks, the environment's rules and the roots.
+#[derive(Drop)]
+struct Asked {
+    universe: Universe,
+    rules: EnvRules,
+    roots: Roots,
 }
 
-// A line, as its roots are solved.
-fn line_told(alloc: Global, line: &str) -> Result<String, Fail> {
+fn asked_in(alloc: Global, tree: &Tree) -> Result<Asked, Fail> {
+    let Tree::List(parts) = tree else {
+        return Err(Fail::from("a list"));
+    };
+    let [cookbooks, rules, Tree::List(roots)] = parts.as_slice() else {
+        return Err(Fail::from("three parts"));
+    };
+    Ok(Asked {
+        universe: universe_in(alloc, cookbooks)?,
+        rules: EnvRules {
+            rules: needs_in(alloc, rules)?,
+        },
+        roots: roots_in(alloc, roots)?,
+    })
+}
+
+fn solution(alloc: Global, json: &str) -> Result<String, Fail> {
+    let tree = read_json(alloc, json.as_bytes()).ok().ok_or("JSON")?;
+    let asked = asked_in(alloc, &tree)?;
+    Ok(told(
+        alloc,
+        solve(alloc, &asked.universe, &asked.rules, &asked.roots),
+    )?)
+}
+
+fn comparison(alloc: Global, json: &str) -> Result<String, Fail> {
+    let tree = read_json(alloc, json.as_bytes()).ok().ok_or("JSON")?;
+    let Tree::List(pair) = &tree else {
+        return Err(Fail::from("a list"));
+    };
+    let [one, other] = pair.as_slice() else {
+        return Err(Fail::from("two parts"));
+    };
+    let one = asked_in(alloc, one)?;
+    let other = asked_in(alloc, other)?;
+    let universe = one.universe.same(&other.universe);
+    let rules = one.rules.same(&other.rules);
+    let roots = one.roots.same(&other.roots);
+    Ok(format!(in alloc; "{universe} {rules} {roots}")?)
+}
+
+// A line, as its roots are solved, or as its two parts compare.
+fn line_told(alloc: Global, line: &str, are_pairs: bool) -> Result<String, Fail> {
     let (asked, _) = line.split_once(" => ").unwrap_or((line, ""));
-    let told = solution(alloc, asked)?;
+    let told = if are_pairs {
+        comparison(alloc, asked)?
+    } else {
+        solution(alloc, asked)?
+    };
     Ok(format!(in alloc; "{asked} => {told}")?)
 }
 
-// The lines whose roots are solved otherwise.
-fn lines_otherwise(alloc: Global, lines: &str) -> Result<String, Fail> {
+// The lines that are told otherwise.
+fn lines_otherwise(alloc: Global, lines: &str, are_pairs: bool) -> Result<String, Fail> {
     let mut otherwise = String::new(alloc);
     for line in lines.lines() {
-        let told = line_told(alloc, line)?;
+        let told = line_told(alloc, line, are_pairs)?;
         if told.as_str() != line {
             otherwise.push_str(told.as_str())?;
             otherwise.push_str("\n")?;
@@ -191,7 +240,14 @@ fn lines_otherwise(alloc: Global, lines: &str) -> Result<String, Fail> {
 
 #[test]
 fn roots_are_solved(rt: HostRuntime) -> Result<(), Fail> {
-    let otherwise = lines_otherwise(rt.alloc(), SOLUTIONS)?;
+    let otherwise = lines_otherwise(rt.alloc(), SOLUTIONS, false)?;
+    assert_eq!(rt; otherwise.as_str(), "");
+    Ok(())
+}
+
+#[test]
+fn what_is_asked_is_compared(rt: HostRuntime) -> Result<(), Fail> {
+    let otherwise = lines_otherwise(rt.alloc(), PAIRS, true)?;
     assert_eq!(rt; otherwise.as_str(), "");
     Ok(())
 }
@@ -210,6 +266,34 @@ fn many_versions(alloc: Global) -> Result<Universe, Fail> {
     let mut cookbooks = Cookbooks::new(alloc);
     cookbooks.push(Cookbook::of(name(alloc, "w")?, releases).ok_or("a cookbook")?)?;
     Ok(Universe::of(cookbooks).ok_or("a universe")?)
+}
+
+// A root `a` that needs `b`, 20 cookbooks of three versions, and `z`, where the newer `b` and `z` need versions of `t`
+// that clash.
+fn far_apart(alloc: Global) -> Result<String, Fail> {
+    let three = r#"{"1.0.0":{},"1.1.0":{},"1.2.0":{}}"#;
+    let mut json = String::from_str(alloc, r#"[{"a":{"1.0.0":{"b":">= 1.0""#)?;
+    for index in 100..120u64 {
+        let named = format!(in alloc; r#","m{index}":">= 1.0""#)?;
+        json.push_str(named.as_str())?;
+    }
+    json.push_str(r#","z":">= 1.0"}},"b":{"1.0.0":{},"1.1.0":{"t":"< 1.1"}}"#)?;
+    for index in 100..120u64 {
+        let named = format!(in alloc; r#","m{index}":{three}"#)?;
+        json.push_str(named.as_str())?;
+    }
+    json.push_str(r#","t":{"1.0.0":{},"1.1.0":{}},"z":{"1.0.0":{"t":">= 1.1"}}}, {}, ["a"]]"#)?;
+    Ok(json)
+}
+
+#[test]
+fn a_clash_with_20_cookbooks_between_ends(rt: HostRuntime) -> Result<(), Fail> {
+    let alloc = rt.alloc();
+    let asked = far_apart(alloc)?;
+    let told = solution(alloc, asked.as_str())?;
+    assert!(rt; told.starts_with("a 1.0.0, b 1.0.0, m100 1.2.0, "));
+    assert!(rt; told.ends_with("m119 1.2.0, t 1.1.0, z 1.0.0"));
+    Ok(())
 }
 
 #[test]

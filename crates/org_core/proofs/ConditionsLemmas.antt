@@ -14,6 +14,8 @@ use Rattle.access_lists.specs.Strangers as membership
 use Rattle.doc_tree.specs.Doc.{Doc}
 use Rattle.doc_tree.specs.Name.{is_name}
 use Rattle.doc_tree.specs.declared.kind.Kind.TheVariants as kinds
+use Rattle.shelves.specs.Shelves.{text_cmp}
+use Rattle.version_rules.specs.Order.{version_cmp}
 use Rattle.object_store.specs.Items.{item_name, ids_in}
 use Rattle.object_store.specs.Objects.{Objects, key, key_cmp}
 use Rattle.object_store.specs.declared.key.Key.{Key}
@@ -24,6 +26,7 @@ use Rattle.org_core.proofs.ObjectConditionsLemmas.{items_taken_out, keeps_bag_re
 use Rattle.org_core.proofs.StartingConditionsLemmas.{key_named, started, starting_known, starts, starts_without_clients}
 use Rattle.org_core.specs.AccessConditions.{AccessConditions, HasItsClients, has_member}
 use Rattle.org_core.specs.Conditions.{MeetsConditions}
+use Rattle.org_core.specs.CookbookConditions.{CookbookConditions}
 use Rattle.org_core.specs.Contexts.{Context, in_state}
 use Rattle.org_core.specs.Creating.{container_list, created_list, with_creator}
 use Rattle.org_core.specs.Moves.{after_moves, joins, with_objects}
@@ -98,7 +101,7 @@ create_keeps o k object list (objects, (access, clients)) listed this known = (
   keeps_put o.objects k object objects this (λ bag id named same. absurd (listed.no_item (item_name bag id) same)),
   (
     put_with_list o k object list access listed.own known,
-    λ name. clients name ∙ sym (other_put o.objects k object name (listed.no_client name)),
+    (λ name. clients.0 name ∙ sym (other_put o.objects k object name (listed.no_client name)), clients.1),
   ),
 )
 
@@ -115,7 +118,7 @@ create_client_keeps o group name object list (objects, (access, clients)) this f
       (
         put_with_list _ (key kinds.Client name) object list (lemmas.client_comes o group name access free form) refl
             (known_grows member.Client name o.membership new list (comes_client group name o.membership) known),
-        λ q. client_put o name object q clients,
+        (λ q. client_put o name object q clients.0, clients.1),
       ),
     )
 
@@ -136,7 +139,7 @@ replace_keeps o k object (objects, (access, clients)) there this own = (
   keeps_put o.objects k object objects this own,
   (
     objects_alone o (finite.insert o.objects k object) access (λ q listed. put_same o.objects k object q there),
-    λ name. clients name ∙ sym (put_same o.objects k object (key kinds.Client name) there),
+    (λ name. clients.0 name ∙ sym (put_same o.objects k object (key kinds.Client name) there), clients.1),
   ),
 )
 
@@ -157,7 +160,7 @@ put_item_keeps o name item (objects, (access, clients)) this own = (
   (
     objects_alone o (finite.insert o.objects (key kinds.Item name) item) access
         (λ q listed. ap is_some (put-at o.objects (key kinds.Item name) item q) ∙ ap (λ b. is_some (cond b (Some item) (finite.get o.objects q))) (other_than_item q name listed)),
-    λ client. clients client ∙ sym (other_put o.objects (key kinds.Item name) item client refl),
+    (λ client. clients.0 client ∙ sym (other_put o.objects (key kinds.Item name) item client refl), clients.1),
   ),
 )
 
@@ -169,7 +172,7 @@ remove_keeps o k (objects, (access, clients)) listed no_bag no_default = (
   keeps_take_out o.objects k objects no_bag no_default,
   (
     take_with_list o k access listed.own,
-    λ name. clients name ∙ sym (other_left o.objects k name (listed.no_client name)),
+    (λ name. clients.0 name ∙ sym (other_left o.objects k name (listed.no_client name)), clients.1),
   ),
 )
 
@@ -180,7 +183,7 @@ remove_client_keeps o name (objects, (access, clients)) = (
   keeps_take_out o.objects (key kinds.Client name) objects (λ bag. refl) refl,
   (
     lemmas.client_goes _ name (take_with_list o (key kinds.Client name) access refl),
-    λ q. client_left o name q clients,
+    (λ q. client_left o name q clients.0, clients.1),
   ),
 )
 
@@ -190,7 +193,7 @@ remove_item_keeps o name (objects, (access, clients)) = (
   (
     objects_alone o (finite.remove o.objects (key kinds.Item name)) access
         (λ q listed. ap is_some (left-at o.objects (key kinds.Item name) q) ∙ ap (λ b. is_some (cond b None (finite.get o.objects q))) (other_than_item q name listed)),
-    λ client. clients client ∙ sym (other_left o.objects (key kinds.Item name) client refl),
+    (λ client. clients.0 client ∙ sym (other_left o.objects (key kinds.Item name) client refl), clients.1),
   ),
 )
 
@@ -212,7 +215,7 @@ remove_bag_keeps (Some o) bag (objects, (access, clients)) =
       keeps_bag_removal bag o.objects objects,
       (
         take_with_list (with_objects left o) (key kinds.Bag bag) (objects_alone o left access (λ q own. same_without bag (ids_in bag o.objects) o.objects q own)) refl,
-        λ name. clients name ∙ sym (other_left left (key kinds.Bag bag) name refl ∙ same_without bag (ids_in bag o.objects) o.objects (key kinds.Client name) refl),
+        (λ name. clients.0 name ∙ sym (other_left left (key kinds.Bag bag) name refl ∙ same_without bag (ids_in bag o.objects) o.objects (key kinds.Client name) refl), clients.1),
       ),
     )
 
@@ -243,5 +246,9 @@ remove_group_keeps o name (objects, (access, clients)) free = (objects, (lemmas.
 
 -- ---- a new organisation
 
+starts_without_versions : CookbookConditions finite.empty
+starts_without_versions name version manifest at =
+    cc (sym (ap (λ (found : Option (finite.FinMap version_cmp Doc)). finite.get (unwrap_or found finite.empty) version) (finite.get-empty text_cmp name) ∙ finite.get-empty version_cmp version) ∙ at)
+
 pub start_keeps : (default : Doc) → IsStored kinds.Environment (codes "_default") default → MeetsConditions (Some (started default))
-start_keeps default this = (keeps_first default this, (starts default, starts_without_clients default))
+start_keeps default this = (keeps_first default this, (starts default, (starts_without_clients default, starts_without_versions)))

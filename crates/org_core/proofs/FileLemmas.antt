@@ -1,29 +1,11 @@
--- What moves do to an organisation's files, and which sandboxes are complete.
+-- Which sandboxes are complete.
 use Rattle.std.proofs.Common.{◌≡◌, ℕ, Bool, true, false, not, cond, List, [], ◌∷◌, Option, Some, None, option_map, unwrap_or, ap, refl, ◌∙◌}
 use Rattle.std.proofs.lemmas.Bool.{and_parts}
 use Rattle.std.specs.FinMap as finite
 use Rattle.std.specs.List.{list_all}
-use Rattle.sandboxes.specs.Sandboxes.{Holding, nothing, has_file, missing, missing_from}
+use Rattle.sandboxes.specs.Sandboxes.{Holding, has_file, missing, missing_from}
 use Rattle.sandboxes.specs.Sums.{Sums}
-use Rattle.org_core.specs.declared.moves.Move.{Move}
-use Rattle.org_core.specs.FileMoves.{after_all, files_after, files_after_move, has_all, is_complete}
-use Rattle.org_core.specs.FullStates.{FullState, MeetsFileConditions}
-use Rattle.org_core.specs.Moves.{after_move, after_moves}
-use Rattle.org_core.specs.States.{State}
-
--- a move leaves no files to an organisation that isn't there
-move_keeps_files : (org : List ℕ) (move : Move) (state : State) (files : Holding) → (state ≡ None → files ≡ nothing) → after_move move state ≡ None → files_after_move org move state files ≡ nothing
-move_keeps_files org move None files meets is = meets refl
-move_keeps_files org move (Some organisation) files meets is = cc
-
-all_keep_files : (org : List ℕ) (moves : List Move) (state : State) (files : Holding) → (state ≡ None → files ≡ nothing) → after_moves moves state ≡ None → files_after org moves state files ≡ nothing
-all_keep_files org [] state files meets = meets
-all_keep_files org (move ∷ rest) state files meets =
-    all_keep_files org rest (after_move move state) (files_after_move org move state files) (move_keeps_files org move state files meets)
-
--- moves lead from files that meet their conditions to files that do
-pub moves_keep_files : (org : List ℕ) (moves : List Move) (full : FullState) → MeetsFileConditions full → MeetsFileConditions (after_all org moves full)
-moves_keep_files org moves full meets = all_keep_files org moves full.state full.files meets
+use Rattle.org_core.specs.FileMoves.{has_all, is_complete}
 
 -- ---- complete sandboxes
 

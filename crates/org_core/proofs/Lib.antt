@@ -5,9 +5,16 @@ pub mod ListedLemmas
 pub mod AccessConditionsLemmas
 pub mod StartingConditionsLemmas
 pub mod ConditionsLemmas
+pub mod EntryLemmas
+pub mod CookbookConditionsLemmas
+pub mod NumberLemmas
+pub mod NamedLemmas
+pub mod VersionLemmas
 pub mod FileLemmas
+pub mod FileConditionsLemmas
 pub mod JoinLemmas
 pub mod ListingLemmas
 pub mod MovesLemmas
 pub mod PlainLemmas
 pub mod ReadLemmas
+pub mod StateLemmas

@@ -22,6 +22,7 @@ use Rattle.access_lists.specs.TextSets.{text_cmp, lists}
 use Rattle.doc_tree.specs.Doc.{Doc}
 use Rattle.doc_tree.specs.Name.{is_name}
 use Rattle.doc_tree.specs.declared.kind.Kind.{Kind}
+use Rattle.shelves.specs.Shelves.{text_cmp as shelf_cmp}
 use Rattle.doc_tree.specs.declared.kind.Kind.TheVariants as kinds
 use Rattle.object_store.specs.Objects.{Lists, key, key_cmp}
 use Rattle.object_store.specs.declared.key.Key.{Key}
@@ -197,6 +198,7 @@ started default = record {
   objects = finite.insert finite.empty (key kinds.Environment (codes "_default")) default;
   lists = put_lists rows finite.empty;
   membership = record { users = set.empty; clients = set.empty; groups = put_groups starting_groups finite.empty };
+  cookbooks = finite.empty;
 }
 
 or_nothing : (b : Bool) → (b || false) ≡ b
@@ -264,7 +266,7 @@ rows_listed default kinds.User name = refl
 rows_listed default kinds.Group name = groups_named starting_groups name ∙ sym (has_starting default name)
 rows_listed default kinds.Container name = containers_named containers name
 rows_listed default kinds.Item name = refl
-rows_listed default kinds.Cookbook name = refl
+rows_listed default kinds.Cookbook name = ap is_some (sym (finite.get-empty shelf_cmp name))
 rows_listed default kinds.Artifact name = refl
 rows_listed default kinds.Policy name = refl
 rows_listed default kinds.PolicyGroup name = refl

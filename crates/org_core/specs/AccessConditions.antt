@@ -16,6 +16,7 @@ use Rattle.doc_tree.specs.Name.{is_name}
 use Rattle.doc_tree.specs.declared.kind.Kind.{Kind}
 use Rattle.doc_tree.specs.declared.kind.Kind.TheVariants.{Org, Node, Role, Environment, Bag, Client, User, Group, Container, Item, Cookbook, Artifact, Policy, PolicyGroup, Acl as AnAcl, Sandbox, File}
 use Rattle.object_store.specs.declared.key.Key.{Key}
+use Rattle.shelves.specs.Shelves.{has_shelf}
 use Rattle.org_core.specs.ObjectConditions.{has}
 use Rattle.org_core.specs.States.{Organisation}
 
@@ -31,7 +32,7 @@ has_listed o User name = false
 has_listed o Group name = membership.has o.membership member.Group name
 has_listed o Container name = is_some (container_named name)
 has_listed o Item name = false
-has_listed o Cookbook name = false
+has_listed o Cookbook name = has_shelf o.cookbooks name
 has_listed o Artifact name = false
 has_listed o Policy name = false
 has_listed o PolicyGroup name = false

@@ -7,10 +7,11 @@ use Rattle.sandboxes.specs.Sums.{Sums}
 use Rattle.org_core.specs.declared.file_moves.FileMove.{FileMove}
 use Rattle.org_core.specs.declared.file_moves.FileMove.TheVariants.{Begin, Upload, Commit}
 use Rattle.org_core.specs.declared.moves.Move.{Move}
-use Rattle.org_core.specs.declared.moves.Move.TheVariants.{Open, Put, TakeOut, PutList, TakeList, AddUser, RemoveUser, AddClient, RemoveClient, PutGroup, RemoveGroup, OnFiles}
+use Rattle.org_core.specs.declared.moves.Move.TheVariants.{Open, Put, TakeOut, PutList, TakeList, AddUser, RemoveUser, AddClient, RemoveClient, PutGroup, RemoveGroup, OnCookbooks, OnFiles}
+use Rattle.org_core.specs.CookbookMoves.{files_after_cookbook_move, puts_version}
 use Rattle.org_core.specs.FullStates.{FullState}
 use Rattle.org_core.specs.Moves.{after_move, after_moves}
-use Rattle.org_core.specs.States.{State}
+use Rattle.org_core.specs.States.{State, Organisation}
 
 -- a file of each of these checksums is there
 abbrev pub has_all : Holding → Sums → Bool
@@ -27,24 +28,25 @@ after_file_move org (Upload asked file) files = uploaded asked file files
 after_file_move org (Commit id) files = cond (is_complete id files) (committed id files) files
 
 -- the files of an organisation that is there after any move
-abbrev pub files_within : List ℕ → Move → Holding → Holding
-files_within org Open files = files
-files_within org (Put key object) files = files
-files_within org (TakeOut key) files = files
-files_within org (PutList key list) files = files
-files_within org (TakeList key) files = files
-files_within org (AddUser comer) files = files
-files_within org (RemoveUser name) files = files
-files_within org (AddClient comer) files = files
-files_within org (RemoveClient name) files = files
-files_within org (PutGroup name members) files = files
-files_within org (RemoveGroup name) files = files
-files_within org (OnFiles move) files = after_file_move org move files
+abbrev pub files_within : List ℕ → Move → Organisation → Holding → Holding
+files_within org Open o files = files
+files_within org (Put key object) o files = files
+files_within org (TakeOut key) o files = files
+files_within org (PutList key list) o files = files
+files_within org (TakeList key) o files = files
+files_within org (AddUser comer) o files = files
+files_within org (RemoveUser name) o files = files
+files_within org (AddClient comer) o files = files
+files_within org (RemoveClient name) o files = files
+files_within org (PutGroup name members) o files = files
+files_within org (RemoveGroup name) o files = files
+files_within org (OnCookbooks move) o files = files_after_cookbook_move move o.cookbooks files
+files_within org (OnFiles move) o files = after_file_move org move files
 
 -- the files of any organisation after a move: one that isn't there has none to change
 abbrev pub files_after_move : List ℕ → Move → State → Holding → Holding
 files_after_move org move None files = files
-files_after_move org move (Some organisation) files = files_within org move files
+files_after_move org move (Some organisation) files = files_within org move organisation files
 
 -- the files after these moves, made in order
 abbrev pub files_after : List ℕ → List Move → State → Holding → Holding
@@ -74,8 +76,29 @@ takes_file_room (AddClient comer) = false
 takes_file_room (RemoveClient name) = false
 takes_file_room (PutGroup name members) = false
 takes_file_room (RemoveGroup name) = false
+takes_file_room (OnCookbooks move) = false
 takes_file_room (OnFiles move) = puts_in_files move
 
 -- how many of the moves do
 abbrev pub files_put_in : List Move → ℕ
 files_put_in moves = length (filter takes_file_room moves)
+
+-- the move puts a cookbook version in
+unfoldable pub takes_shelf_room : Move → Bool
+takes_shelf_room Open = false
+takes_shelf_room (Put key object) = false
+takes_shelf_room (TakeOut key) = false
+takes_shelf_room (PutList key list) = false
+takes_shelf_room (TakeList key) = false
+takes_shelf_room (AddUser comer) = false
+takes_shelf_room (RemoveUser name) = false
+takes_shelf_room (AddClient comer) = false
+takes_shelf_room (RemoveClient name) = false
+takes_shelf_room (PutGroup name members) = false
+takes_shelf_room (RemoveGroup name) = false
+takes_shelf_room (OnCookbooks move) = puts_version move
+takes_shelf_room (OnFiles move) = false
+
+-- how many of the moves do
+abbrev pub versions_put_in : List Move → ℕ
+versions_put_in moves = length (filter takes_shelf_room moves)

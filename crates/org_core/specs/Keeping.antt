@@ -3,6 +3,8 @@ use Rattle.std.specs.Prelude.{◌≡◌, true, false, None, Ok}
 use Rattle.org_core.specs.declared.requests.Request.{Request}
 use Rattle.org_core.specs.Conditions.{MeetsConditions}
 use Rattle.org_core.specs.Contexts.{Context}
+use Rattle.org_core.specs.FileMoves.{after_all, versions_put_in}
+use Rattle.org_core.specs.FullStates.{FullState, MeetsFileConditions}
 use Rattle.org_core.specs.Moves.{IsOrderly, after_moves}
 use Rattle.org_core.specs.Needs.{is_known}
 use Rattle.org_core.specs.Outcomes.{Decided, outcome_of}
@@ -36,3 +38,26 @@ MakesOrderly decided = IsOrderly (outcome_of decided.answer).moves
 -- whatever a group does is
 abbrev pub IsOrderlyGroup : {Route Operation : Type 0} → Rules Route Operation → Type 0
 IsOrderlyGroup {Route} {Operation} rules = (context : Context) (operation : Operation) → MakesOrderly (rules.does context operation)
+
+-- the full state that a context sees
+abbrev pub full_of : Context → FullState
+full_of context = record { state = context.state; files = context.files }
+
+-- what was decided leads to files that meet their conditions
+abbrev pub LeadsToFileConditions : Context → Decided → Type 0
+LeadsToFileConditions context decided = MeetsFileConditions (after_all context.org (outcome_of decided.answer).moves (full_of context))
+
+-- what a group does keeps the conditions of files: an operation that was read and that the group itself doesn't refuse
+-- leads from files that meet them to files that do
+abbrev pub KeepsFileConditions : {Route Operation : Type 0} → Rules Route Operation → Type 0
+KeepsFileConditions {Route} {Operation} rules =
+    (context : Context) (route : Route) (request : Request) (operation : Operation) → MeetsFileConditions (full_of context)
+    → rules.operation context route request ≡ Ok operation → rules.own_refusal context operation ≡ None → LeadsToFileConditions context (rules.does context operation)
+
+-- what was decided puts no cookbook version in
+abbrev pub PutsNoVersion : Decided → Type 0
+PutsNoVersion decided = versions_put_in (outcome_of decided.answer).moves ≡ 0
+
+-- whatever a group does puts none in
+abbrev pub PutsNoVersions : {Route Operation : Type 0} → Rules Route Operation → Type 0
+PutsNoVersions {Route} {Operation} rules = (context : Context) (operation : Operation) → PutsNoVersion (rules.does context operation)

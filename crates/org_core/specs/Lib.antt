@@ -7,9 +7,11 @@ pub mod Comers
 pub mod Stored
 pub mod Named
 pub mod FullStates
+pub mod CookbookMoves
 pub mod Moves
 pub mod FileMoves
 pub mod Rooms
+pub mod Parameters
 pub mod Bodies
 pub mod Contexts
 pub mod Needs
@@ -18,6 +20,7 @@ pub mod Creating
 pub mod Rules
 pub mod ObjectConditions
 pub mod AccessConditions
+pub mod CookbookConditions
 pub mod Conditions
 pub mod Keeping
 pub mod Plain

@@ -1,10 +1,10 @@
 -- What each refusal is answered with, and the first of several refusals.
 use Rattle.std.specs.List.{join_by}
-use Rattle.std.specs.Prelude.{◌≡◌, Bool, cond, ℕ, List, [], ◌∷◌, ◌++◌, Option, Some, None, Result, Ok, Err, codes}
-use Rattle.doc_tree.specs.Doc.{Doc, words, list, no_docs, then_doc}
+use Rattle.std.specs.Prelude.{◌≡◌, Bool, cond, ℕ, List, [], ◌∷◌, ◌++◌, map, Option, Some, None, Result, Ok, Err, codes}
+use Rattle.doc_tree.specs.Doc.{Doc, words, list, dict, docs_of, no_docs, pairs_of, then_doc}
 use Rattle.access_lists.specs.Acls.{word_of}
 use Rattle.org_core.specs.declared.refusals.Refusal.{Refusal}
-use Rattle.org_core.specs.declared.refusals.Refusal.TheVariants.{TooLarge, VersionNotTaken, NotImplemented, NotFound, NotAllowed, UnknownCaller, NotJson, TooDeep, NotWhole, BadField, Forbidden, AlreadyExists, MissingChecksums, DigestDiffers, SandboxesAtEnd}
+use Rattle.org_core.specs.declared.refusals.Refusal.TheVariants.{TooLarge, VersionNotTaken, NotImplemented, NotFound, NotAllowed, UnknownCaller, NotJson, TooDeep, NotWhole, BadField, Forbidden, AlreadyExists, MissingChecksums, DigestDiffers, SandboxesAtEnd, BadParameter, Frozen, Unsolvable}
 use Rattle.org_core.specs.declared.refusals.Stop.{Stop}
 use Rattle.org_core.specs.declared.refusals.Stop.TheVariants.{Refused, NoMemory}
 use Rattle.org_core.specs.declared.replies.Reply.{Reply}
@@ -27,32 +27,56 @@ status_of AlreadyExists = 409
 status_of (MissingChecksums sums) = 400
 status_of (DigestDiffers found asked) = 400
 status_of SandboxesAtEnd = 409
+status_of (BadParameter name) = 400
+status_of Frozen = 409
+status_of (Unsolvable no_cookbook no_version) = 412
 
--- the words of a refusal
-abbrev pub words_of : Refusal → List ℕ
-words_of TooLarge = codes "body is too large"
-words_of VersionNotTaken = codes "api version is not taken"
-words_of NotImplemented = codes "not implemented"
-words_of NotFound = codes "not found"
-words_of NotAllowed = codes "not allowed"
-words_of UnknownCaller = codes "caller is not known"
-words_of NotJson = codes "body is not JSON"
-words_of TooDeep = codes "body is too deep"
-words_of NotWhole = codes "number is not whole"
-words_of (BadField field) = codes "bad field " ++ field
-words_of (Forbidden permission) = codes "missing " ++ (word_of permission ++ codes " permission")
-words_of AlreadyExists = codes "already exists"
-words_of (MissingChecksums sums) = codes "missing checksums: " ++ join_by (λ sum. sum) (codes ", ") sums
-words_of (DigestDiffers found asked) = codes "digest is " ++ (found ++ (codes ", not " ++ asked))
-words_of SandboxesAtEnd = codes "sandbox count is at its end"
+-- {"error":[DOC]}
+abbrev pub error_of : Doc → Doc
+error_of doc = one_key (codes "error") (list (then_doc doc no_docs))
 
 -- {"error":["WORDS"]}
 abbrev pub error_body : List ℕ → Doc
-error_body message = one_key (codes "error") (list (then_doc (words message) no_docs))
+error_body message = error_of (words message)
+
+-- names in a list
+abbrev pub names_doc : List (List ℕ) → Doc
+names_doc names = list (docs_of (map words names))
+
+-- what is told where no set of cookbook versions meets a run list: the roots that no cookbook has, and those of which no
+-- version may be chosen
+abbrev pub unsolvable_doc : List (List ℕ) → List (List ℕ) → Doc
+unsolvable_doc no_cookbook no_version =
+    dict (pairs_of (
+    (codes "cookbooks_with_no_versions", names_doc no_version)
+    ∷ (codes "message", words (codes "no set of cookbook versions meets the run list"))
+    ∷ (codes "non_existent_cookbooks", names_doc no_cookbook)
+    ∷ []))
+
+-- the body of the reply to a refusal
+abbrev pub body_of : Refusal → Doc
+body_of TooLarge = error_body (codes "body is too large")
+body_of VersionNotTaken = error_body (codes "api version is not taken")
+body_of NotImplemented = error_body (codes "not implemented")
+body_of NotFound = error_body (codes "not found")
+body_of NotAllowed = error_body (codes "not allowed")
+body_of UnknownCaller = error_body (codes "caller is not known")
+body_of NotJson = error_body (codes "body is not JSON")
+body_of TooDeep = error_body (codes "body is too deep")
+body_of NotWhole = error_body (codes "number is not whole")
+body_of (BadField field) = error_body (codes "bad field " ++ field)
+body_of (Forbidden permission) = error_body (codes "missing " ++ (word_of permission ++ codes " permission"))
+body_of AlreadyExists = error_body (codes "already exists")
+body_of (MissingChecksums sums) = error_body (codes "missing checksums: " ++ join_by (λ sum. sum) (codes ", ") sums)
+body_of (DigestDiffers found asked) = error_body (codes "digest is " ++ (found ++ (codes ", not " ++ asked)))
+body_of SandboxesAtEnd = error_body (codes "sandbox count is at its end")
+body_of (BadParameter name) = error_body (codes "bad parameter " ++ name)
+body_of Frozen = error_body (codes "frozen")
+body_of (Unsolvable no_cookbook no_version) = error_of (unsolvable_doc no_cookbook no_version)
 
 -- the reply that tells of a refusal
 abbrev pub reply_to : Refusal → Reply
-reply_to refusal = with_body (status_of refusal) (error_body (words_of refusal))
+reply_to refusal = with_body (status_of refusal) (body_of refusal)
 
 -- the reply to want of memory
 abbrev pub out_of_memory : Reply

@@ -5,6 +5,7 @@ ghost use Rattle.org_core.specs.FileMoves as files;
 ghost use Rattle.org_core.specs.Moves as spec;
 
 use crate::comers::Comer;
+use crate::cookbook_moves::CookbookMove;
 use crate::file_moves::FileMove;
 use crate::group_members::GroupMembers;
 use crate::stored::Stored;
@@ -39,6 +40,8 @@ pub enum Move {
     PutGroup(Text, GroupMembers),
     /// A group goes, out of every other group and every access list too.
     RemoveGroup(Text),
+    /// The cookbook versions of an organisation that is there change, and with them its files.
+    OnCookbooks(CookbookMove),
     /// The files and sandboxes of an organisation that is there change.
     OnFiles(FileMove),
 }
@@ -64,6 +67,28 @@ impl Move {
             | Move::RemoveUser(_)
             | Move::RemoveClient(_)
             | Move::RemoveGroup(_)
+            | Move::OnCookbooks(_)
+            | Move::OnFiles(_) => false,
+        }
+    }
+
+    /// Whether it makes an organisation of none.
+    pub(crate) fn opens(&self) -> bool
+        ensures { result ≡ spec.opens self.now }
+    {
+        match self {
+            Move::Open => true,
+            Move::Put(_, _)
+            | Move::TakeOut(_)
+            | Move::PutList(_, _)
+            | Move::TakeList(_)
+            | Move::AddUser(_)
+            | Move::RemoveUser(_)
+            | Move::AddClient(_)
+            | Move::RemoveClient(_)
+            | Move::PutGroup(_, _)
+            | Move::RemoveGroup(_)
+            | Move::OnCookbooks(_)
             | Move::OnFiles(_) => false,
         }
     }
@@ -85,7 +110,30 @@ impl Move {
             | Move::AddClient(_)
             | Move::RemoveClient(_)
             | Move::PutGroup(_, _)
-            | Move::RemoveGroup(_) => false,
+            | Move::RemoveGroup(_)
+            | Move::OnCookbooks(_) => false,
+        }
+    }
+
+    /// Whether it puts a cookbook version in, which takes room among them.
+    #[tactic(auto, unfolding(crate::specs::FileMoves::takes_shelf_room))]
+    pub(crate) fn takes_shelf_room(&self) -> bool
+        ensures { result ≡ files.takes_shelf_room self.now }
+    {
+        match self {
+            Move::OnCookbooks(one) => one.puts_version(),
+            Move::Open
+            | Move::Put(_, _)
+            | Move::TakeOut(_)
+            | Move::PutList(_, _)
+            | Move::TakeList(_)
+            | Move::AddUser(_)
+            | Move::RemoveUser(_)
+            | Move::AddClient(_)
+            | Move::RemoveClient(_)
+            | Move::PutGroup(_, _)
+            | Move::RemoveGroup(_)
+            | Move::OnFiles(_) => false,
         }
     }
 
@@ -104,6 +152,7 @@ impl Move {
             | Move::RemoveClient(_)
             | Move::PutGroup(_, _)
             | Move::RemoveGroup(_)
+            | Move::OnCookbooks(_)
             | Move::OnFiles(_) => None,
         }
     }
@@ -129,6 +178,19 @@ pub(crate) fn files_put_in(moves: &[Move]) -> usize
     let mut count = 0;
     for one in moves {
         if one.takes_file_room() {
+            count += 1;
+        }
+    }
+    count
+}
+
+/// How many of the moves put a cookbook version in.
+pub(crate) fn versions_put_in(moves: &[Move]) -> usize
+    ensures { result ≡ files.versions_put_in moves.now }
+{
+    let mut count = 0;
+    for one in moves {
+        if one.takes_shelf_room() {
             count += 1;
         }
     }

@@ -2,12 +2,13 @@
 
 ghost use Rattle.std.specs.Prelude.{◌≡◌, IfOk, false, codes, string_bytes};
 ghost use Rattle.std.specs.List.{join_by};
+ghost use Rattle.doc_tree.specs.Tree.{doc_of};
 ghost use Rattle.org_core.specs.Replies as replies;
 ghost use Rattle.org_core.specs.Refusals as spec;
 
 use crate::replies::{Reply, with_key};
 use access_lists::Perm;
-use doc_tree::{Bytes, NoMemory, Text, Tree, Trees};
+use doc_tree::{Bytes, Fields, Name, Names, NoMemory, Text, Tree, Trees};
 use http::StatusCode;
 use sandboxes::{Checksum, Sums};
 use std::alloc::Global;
@@ -50,6 +51,18 @@ pub enum Refusal {
     },
     /// 409: the organisation has made 2^64-1 sandboxes.
     SandboxesAtEnd,
+    /// 400: this parameter of the query hasn't its form.
+    BadParameter(Text),
+    /// 409: the cookbook version is frozen.
+    Frozen,
+    /// 412: no set of cookbook versions meets the run list. Both lists are of its cookbooks, in the order of
+    /// their bytes.
+    Unsolvable {
+        /// Those that the organisation hasn't.
+        no_cookbook: Names,
+        /// Those that it has, and of which no version may be chosen.
+        no_version: Names,
+    },
 }
 
 /// Why a request isn't done: it is refused, or no memory was left for it.
@@ -115,6 +128,12 @@ impl Refusal {
                 StatusCode::CONFLICT,
                 b"{\"error\":[\"sandbox count is at its end\"]}",
             )),
+            Refusal::BadParameter(name) => bad_parameter(alloc, &name),
+            Refusal::Frozen => Ok(refused(StatusCode::CONFLICT, b"{\"error\":[\"frozen\"]}")),
+            Refusal::Unsolvable {
+                no_cookbook,
+                no_version,
+            } => unsolvable(alloc, &no_cookbook, &no_version),
         }
     }
 }
@@ -152,6 +171,54 @@ fn bad_field(alloc: Global, field: &Text) -> Result<Reply, NoMemory>
     let mut words = String::from_str(alloc, "bad field ")?;
     words.push_str(field.as_str())?;
     bad_request_of(alloc, words)
+}
+
+fn bad_parameter(alloc: Global, name: &Text) -> Result<Reply, NoMemory>
+    ensures { IfOk result (λ reply. reply ≡ spec.reply_to (Refusal.BadParameter name.now)) }
+{
+    let mut words = String::from_str(alloc, "bad parameter ")?;
+    words.push_str(name.as_str())?;
+    bad_request_of(alloc, words)
+}
+
+fn unsolvable(alloc: Global, no_cookbook: &Names, no_version: &Names) -> Result<Reply, NoMemory>
+    ensures { IfOk result (λ reply. reply ≡ spec.reply_to (Refusal.Unsolvable no_cookbook.now no_version.now)) }
+{
+    let mut errors = Trees::new(alloc);
+    errors.push(unsolvable_tree(alloc, no_cookbook, no_version)?)?;
+    with_key(
+        alloc,
+        StatusCode::PRECONDITION_FAILED,
+        "error",
+        Tree::List(errors),
+    )
+}
+
+fn unsolvable_tree(alloc: Global, no_cookbook: &Names, no_version: &Names) -> Result<Tree, NoMemory>
+    ensures { IfOk result (λ tree. doc_of tree ≡ spec.unsolvable_doc no_cookbook.now no_version.now) }
+{
+    let message = Text::from_str(alloc, "no set of cookbook versions meets the run list")?;
+    let mut fields = Fields::with_capacity(alloc, 3)?;
+    fields.put(
+        Text::from_str(alloc, "cookbooks_with_no_versions")?,
+        names_tree(alloc, no_version.as_slice())?,
+    )?;
+    fields.put(Text::from_str(alloc, "message")?, Tree::Words(message))?;
+    fields.put(
+        Text::from_str(alloc, "non_existent_cookbooks")?,
+        names_tree(alloc, no_cookbook.as_slice())?,
+    )?;
+    Ok(Tree::Dict(fields))
+}
+
+fn names_tree(alloc: Global, names: &[Name]) -> Result<Tree, NoMemory>
+    ensures { IfOk result (λ tree. doc_of tree ≡ spec.names_doc names.now) }
+{
+    let mut trees = Trees::with_capacity(alloc, names.len())?;
+    for name in names {
+        trees.push(Tree::Words(name.as_text().copy(alloc)?))?;
+    }
+    Ok(Tree::List(trees))
 }
 
 // The checksums stand in the order of their bytes.

@@ -5,8 +5,9 @@ ghost use Rattle.org_core.specs.States.{state_in, IsNobody};
 
 use crate::bodies::document_in;
 use crate::comers::Comer;
+use crate::cookbook_moves::Cookbooks;
 use crate::group_members::GroupMembers;
-use crate::moves::{Move, Moves, files_put_in, puts_in};
+use crate::moves::{Move, Moves, files_put_in, puts_in, versions_put_in};
 use crate::org_state::{OrgState, make_all, make_place_first};
 use crate::refusals::{Refusal, out_of_memory};
 use crate::replies::Reply;
@@ -163,10 +164,11 @@ fn make_one(
     there: &mut bool,
     objects: &mut Objects,
     groups: &mut Groups,
+    cookbooks: &mut Cookbooks,
     one: Move,
 ) -> Result<(), NoMemory>
-    requires { IsNobody there.old objects.old groups.old }
-    ensures { IsNobody there.new objects.new groups.new }
+    requires { IsNobody there.old objects.old groups.old cookbooks.old }
+    ensures { IsNobody there.new objects.new groups.new cookbooks.new }
 {
     let mut moves = Moves::new(alloc);
     moves.push(one)?;
@@ -176,7 +178,8 @@ fn make_one(
     objects.reserve(puts_in(moves.as_slice()))?;
     groups.reserve(puts_in(moves.as_slice()))?;
     make_place_first(groups, moves.as_slice())?;
-    make_all(&acme, there, objects, groups, &mut files, moves);
+    cookbooks.reserve(versions_put_in(moves.as_slice()))?;
+    make_all(&acme, there, objects, groups, cookbooks, &mut files, moves);
     Ok(())
 }
 
@@ -206,13 +209,14 @@ fn step(
     there: &mut bool,
     objects: &mut Objects,
     groups: &mut Groups,
+    cookbooks: &mut Cookbooks,
     text: &mut String,
     one: Move,
 ) -> Result<(), NoMemory>
-    requires { IsNobody there.old objects.old groups.old }
-    ensures { IsNobody there.new objects.new groups.new }
+    requires { IsNobody there.old objects.old groups.old cookbooks.old }
+    ensures { IsNobody there.new objects.new groups.new cookbooks.new }
 {
-    make_one(alloc, there, objects, groups, one)?;
+    make_one(alloc, there, objects, groups, cookbooks, one)?;
     add_parts(alloc, text, *there, objects, groups)
 }
 
@@ -221,32 +225,90 @@ fn live(
     hasher: RandomState,
     objects: &mut Objects,
     groups: &mut Groups,
+    cookbooks: &mut Cookbooks,
     text: &mut String,
 ) -> Result<(), NoMemory>
-    requires { IsNobody false objects.old groups.old }
+    requires { IsNobody false objects.old groups.old cookbooks.old }
 {
     let mut there = false;
-    step(alloc, &mut there, objects, groups, text, node(alloc)?)?;
-    step(alloc, &mut there, objects, groups, text, Move::Open)?;
-    step(alloc, &mut there, objects, groups, text, node(alloc)?)?;
-    step(alloc, &mut there, objects, groups, text, gone(alloc)?)?;
     step(
         alloc,
         &mut there,
         objects,
         groups,
+        cookbooks,
+        text,
+        node(alloc)?,
+    )?;
+    step(
+        alloc,
+        &mut there,
+        objects,
+        groups,
+        cookbooks,
+        text,
+        Move::Open,
+    )?;
+    step(
+        alloc,
+        &mut there,
+        objects,
+        groups,
+        cookbooks,
+        text,
+        node(alloc)?,
+    )?;
+    step(
+        alloc,
+        &mut there,
+        objects,
+        groups,
+        cookbooks,
+        text,
+        gone(alloc)?,
+    )?;
+    step(
+        alloc,
+        &mut there,
+        objects,
+        groups,
+        cookbooks,
         text,
         no_users(alloc, hasher)?,
     )?;
-    step(alloc, &mut there, objects, groups, text, comes(alloc)?)?;
-    step(alloc, &mut there, objects, groups, text, goes(alloc)?)
+    step(
+        alloc,
+        &mut there,
+        objects,
+        groups,
+        cookbooks,
+        text,
+        comes(alloc)?,
+    )?;
+    step(
+        alloc,
+        &mut there,
+        objects,
+        groups,
+        cookbooks,
+        text,
+        goes(alloc)?,
+    )
 }
 
 /// What is large has one way out.
 fn add_life(alloc: Global, hasher: RandomState, text: &mut String) -> Result<(), NoMemory> {
     let mut objects = Objects::none(alloc, hasher);
     let mut groups = Groups::none(alloc, hasher);
-    live(alloc, hasher, &mut objects, &mut groups, text)
+    let mut cookbooks = Cookbooks::none(alloc);
+    live(
+        alloc,
+        hasher,
+        &mut objects,
+        &mut groups,
+        &mut cookbooks,
+        text,
+    )
 }
 
 #[test]

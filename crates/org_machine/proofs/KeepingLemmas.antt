@@ -52,7 +52,7 @@ at_route_keeps context (Objects collection route) request meets free =
     answered_keeps Someone (objects_rules collection) (objects_keep collection) context route request meets (known_at (Objects collection route) context free refl)
 at_route_keeps context (Data route) request meets free = answered_keeps Someone data_rules data_keep context route request meets (known_at (Data route) context free refl)
 at_route_keeps context (Access route) request meets free = answered_keeps Someone access_rules access_keep context route request meets (known_at (Access route) context free refl)
-at_route_keeps context (Cookbooks route) request meets free = answered_keeps Anyone cookbook_rules cookbooks_keep context route request meets tt
+at_route_keeps context (Cookbooks route) request meets free = answered_keeps Someone cookbook_rules cookbooks_keep context route request meets (known_at (Cookbooks route) context free refl)
 at_route_keeps context (Policies route) request meets free = meets
 at_route_keeps context (Search route) request meets free = meets
 

@@ -1,6 +1,7 @@
 pub mod AnsweredLemmas
 pub mod Going
 pub mod KeepingLemmas
+pub mod FileKeepingLemmas
 pub mod OrderlyLemmas
 pub mod OutsideLemmas
 pub mod PreparedLemmas

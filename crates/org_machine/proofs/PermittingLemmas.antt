@@ -14,7 +14,7 @@ use Rattle.route_table.specs.declared.verbs.Verb.TheVariants.{Get, Post, Put, De
 use Rattle.org_core.specs.declared.needs.Need.{Need}
 use Rattle.org_core.specs.declared.needs.Need.TheVariants.{Operator, Listed}
 use Rattle.org_core.specs.declared.refusals.Refusal.{Refusal}
-use Rattle.org_core.specs.declared.refusals.Refusal.TheVariants.{TooLarge, VersionNotTaken, NotImplemented, NotFound, NotAllowed, UnknownCaller, NotJson, TooDeep, NotWhole, BadField, Forbidden, AlreadyExists, MissingChecksums, DigestDiffers, SandboxesAtEnd}
+use Rattle.org_core.specs.declared.refusals.Refusal.TheVariants.{TooLarge, VersionNotTaken, NotImplemented, NotFound, NotAllowed, UnknownCaller, NotJson, TooDeep, NotWhole, BadField, Forbidden, AlreadyExists, MissingChecksums, DigestDiffers, SandboxesAtEnd, BadParameter, Frozen, Unsolvable}
 use Rattle.org_core.specs.declared.replies.Reply.{Reply}
 use Rattle.org_core.specs.declared.requests.Body.{Body}
 use Rattle.org_core.specs.declared.requests.Place.{Place}
@@ -75,6 +75,9 @@ plain_is_not AlreadyExists plain is = not_403 409 refl is
 plain_is_not (MissingChecksums sums) plain is = not_403 400 refl is
 plain_is_not (DigestDiffers found asked) plain is = not_403 400 refl is
 plain_is_not SandboxesAtEnd plain is = not_403 409 refl is
+plain_is_not (BadParameter name) plain is = not_403 400 refl is
+plain_is_not Frozen plain is = not_403 409 refl is
+plain_is_not (Unsolvable no_cookbook no_version) plain is = not_403 412 refl is
 plain_is_not (Forbidden permission) plain is = plain
 
 told_is_not : (told : Told) → (reply_of told).status ≡ 403 → ⊥

@@ -3,7 +3,7 @@ use Rattle.std.proofs.Common.{◌≡◌, ◌+◌, ◌⊎◌, ℕ, List, [], Resu
 use Rattle.org_core.specs.declared.groups.Prepared.{Prepared}
 use Rattle.org_core.specs.declared.moves.Move.{Move}
 use Rattle.org_core.specs.declared.refusals.Refusal.{Refusal}
-use Rattle.org_core.specs.declared.refusals.Refusal.TheVariants.{TooLarge, VersionNotTaken, NotImplemented, NotFound, NotAllowed, UnknownCaller, NotJson, TooDeep, NotWhole, BadField, Forbidden, AlreadyExists, MissingChecksums, DigestDiffers, SandboxesAtEnd}
+use Rattle.org_core.specs.declared.refusals.Refusal.TheVariants.{TooLarge, VersionNotTaken, NotImplemented, NotFound, NotAllowed, UnknownCaller, NotJson, TooDeep, NotWhole, BadField, Forbidden, AlreadyExists, MissingChecksums, DigestDiffers, SandboxesAtEnd, BadParameter, Frozen, Unsolvable}
 use Rattle.org_core.specs.declared.requests.Request.{Request}
 use Rattle.org_core.specs.FileMoves.{after_all}
 use Rattle.org_core.specs.Rooms.{HasRoom}
@@ -12,7 +12,7 @@ use Rattle.org_core.specs.Refusals.{reply_to, out_of_memory}
 use Rattle.access_lists.specs.Rooms as groups
 use Rattle.object_store.specs.Objects.{Store}
 use Rattle.org_core.specs.FullStates.{FullState}
-use Rattle.org_core.specs.States.{Kept}
+use Rattle.org_core.specs.States.{Kept, Shelved}
 use Rattle.org_machine.specs.Marks.{mark_of, served, short, own_name, answer, after, IsLawful}
 use Rattle.org_machine.specs.Serving.{IsGood, ComesWith, Does, Looks}
 use Rattle.org_machine.specs.Steps.{decided, step, looks}
@@ -40,6 +40,9 @@ refusal_is_served AlreadyExists = refl
 refusal_is_served (MissingChecksums sums) = refl
 refusal_is_served (DigestDiffers found asked) = refl
 refusal_is_served SandboxesAtEnd = refl
+refusal_is_served (BadParameter name) = refl
+refusal_is_served Frozen = refl
+refusal_is_served (Unsolvable no_cookbook no_version) = refl
 
 outcome_is_served : (answer : Result Done Refusal) → mark_of (outcome_of answer).reply ≡ served
 outcome_is_served (Ok done) = told_is_served done.told
@@ -73,15 +76,16 @@ pub record IsPrepared (prepared : Prepared) (request : Request) (state : FullSta
   pub lawful : IsLawful (mark_of prepared.reply) request state
   pub moves : after_all (own_name request) prepared.moves state ≡ after (mark_of prepared.reply) request state
   pub made : ComesWith prepared.reply.status prepared.moves
-  pub room : HasRoom prepared.moves kept.objects kept.groups spare
+  pub room : HasRoom prepared.moves kept.objects kept.groups kept.cookbooks spare
   pub looks : Looks prepared.reply request state before now
 
 -- it took just the looks of the step, and so at most these
 exactly : (before now count : ℕ) → now ≡ before + count → LooksAtMost count before now
 exactly before now count is = (omega (arith, is), omega (arith, is))
 
-no_room_needed : (moves : List Move) (store : Store) (members : groups.Kept) (spare : ℕ) → moves ≡ [] → HasRoom moves store members spare
-no_room_needed moves store members spare none = subst (λ ms. HasRoom ms store members spare) (sym none) (record { room = omega arith; orderly = refl; place = tt; files = omega arith })
+no_room_needed : (moves : List Move) (store : Store) (members : groups.Kept) (cookbooks : Shelved) (spare : ℕ) → moves ≡ [] → HasRoom moves store members cookbooks spare
+no_room_needed moves store members cookbooks spare none =
+    subst (λ ms. HasRoom ms store members cookbooks spare) (sym none) (record { room = omega arith; orderly = refl; place = tt; versions = omega arith; files = omega arith })
 
 short≢served : short ≡ served → ⊥
 short≢served same = cc
@@ -107,7 +111,7 @@ is_prepared prepared request state kept spare before now (inr p) =
       lawful = subst (λ m. IsLawful m request state) (sym mark) tt;
       moves = ap (λ ms. after_all (own_name request) ms state) p.moves ∙ ap (λ m. after m request state) (sym mark);
       made = inl p.moves;
-      room = no_room_needed prepared.moves kept.objects kept.groups spare p.moves;
+      room = no_room_needed prepared.moves kept.objects kept.groups kept.cookbooks spare p.moves;
       looks = record { exact = λ is. absurd (short≢served (sym mark ∙ is)); most = p.looked };
     }
 
@@ -119,7 +123,7 @@ found_is_due prepared (Err refusal) found = absurd found
 
 -- what was found is done with room for it, or told as want of memory
 pub found_with_room : (prepared result : Prepared) (due : Decided) (kept : Kept) (spare before now : ℕ)
-    → Finds (Ok prepared) due.answer → now ≡ before + due.looks → HasRoom result.moves kept.objects kept.groups spare
+    → Finds (Ok prepared) due.answer → now ≡ before + due.looks → HasRoom result.moves kept.objects kept.groups kept.cookbooks spare
     → (result ≡ prepared) ⊎ ((result.reply ≡ out_of_memory) × (result.moves ≡ [])) → Does result due kept spare before now
 found_with_room prepared result due kept spare before now found looked room (inl same) =
     let is = found_is_due prepared due.answer found in

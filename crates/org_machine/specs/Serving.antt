@@ -31,7 +31,7 @@ IsOrShort reply due = (reply ≡ due) ⊎ (reply ≡ out_of_memory)
 pub record IsDue (prepared : Prepared) (due : Decided) (kept : Kept) (spare before now : ℕ) : Type 0 where
   pub reply : prepared.reply ≡ (outcome_of due.answer).reply
   pub moves : prepared.moves ≡ (outcome_of due.answer).moves
-  pub room : HasRoom prepared.moves kept.objects kept.groups spare
+  pub room : HasRoom prepared.moves kept.objects kept.groups kept.cookbooks spare
   pub looked : now ≡ before + due.looks
 
 -- what was prepared tells of want of memory and makes no move, after some of the looks

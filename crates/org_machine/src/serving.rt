@@ -48,10 +48,12 @@ pub fn prepare<L: Ledger>(
     ensures lawful { IsLawful (mark_of result.reply) request.now (full_in state.old files.old) }
     ensures moves { after_all (own_name request.now) result.moves (full_in state.old files.old) ≡ after (mark_of result.reply) request.now (full_in state.old files.old) }
     ensures made { ComesWith result.reply.status result.moves }
-    ensures room { HasRoom result.moves state.new.objects state.new.groups (spare_of files.new state.new.name) }
+    ensures room { HasRoom result.moves state.new.objects state.new.groups state.new.cookbooks (spare_of files.new state.new.name) }
     // The moves lead to a state that meets the conditions of every organisation's state.
     ensures conditions { MeetsConditions (after_moves result.moves (state_in state.new)) }
+    // And so do its files, both as they are and as the moves leave them.
     ensures files { MeetsFileConditions (full_in state.new files.new) }
+    ensures files_then { MeetsFileConditions (after_all state.new.name result.moves (full_in state.new files.new)) }
     ensures looks { Looks result.reply request.now (full_in state.old files.old) steps.old steps.new }
 {
     state.meets_conditions();
@@ -131,7 +133,7 @@ fn with_room(alloc: Global, state: &mut OrgState, files: &mut Files, prepared: P
     ensures name { state.new.name ≡ state.old.name }
     ensures same { full_in state.new files.new ≡ full_in state.old files.old }
     ensures others { OthersStay state.old.name files.old files.new }
-    ensures room { HasRoom result.moves state.new.objects state.new.groups (spare_of files.new state.new.name) }
+    ensures room { HasRoom result.moves state.new.objects state.new.groups state.new.cookbooks (spare_of files.new state.new.name) }
     ensures done { (result ≡ prepared) ⊎ ((result.reply ≡ refusals.out_of_memory) × (result.moves ≡ [])) }
 {
     match state.reserve(alloc, files, &prepared.moves) {
@@ -164,9 +166,9 @@ pub(crate) fn told(alloc: Global, refusal: Refusal) -> Reply
 /// Makes the moves of a request that was prepared for this state and these files, and hands on its
 /// reply. The files of every other organisation stay. It takes no memory and can't fail.
 pub fn settle(state: &mut OrgState, files: &mut Files, prepared: Prepared) -> Reply
-    requires room { HasRoom prepared.moves state.old.objects state.old.groups (spare_of files.old state.old.name) }
+    requires room { HasRoom prepared.moves state.old.objects state.old.groups state.old.cookbooks (spare_of files.old state.old.name) }
     requires conditions { MeetsConditions (after_moves prepared.moves (state_in state.old)) }
-    requires files { MeetsFileConditions (full_in state.old files.old) }
+    requires files { MeetsFileConditions (after_all state.old.name prepared.moves (full_in state.old files.old)) }
     ensures reply { result ≡ prepared.reply }
     ensures name { state.new.name ≡ state.old.name }
     ensures state { full_in state.new files.new ≡ after_all state.old.name prepared.moves (full_in state.old files.old) }

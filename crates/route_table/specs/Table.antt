@@ -124,9 +124,9 @@ files =
 -- cookbooks, their artifacts, and the versions that a run list needs
 abbrev pub cookbooks : List Route
 cookbooks =
-    route (within (fixed (codes "cookbooks") ∷ [])) Cookbooks (get later ∷ [])
-    ∷ route (within (fixed (codes "cookbooks") ∷ any ∷ [])) Cookbook (get later ∷ [])
-    ∷ route (within (fixed (codes "cookbooks") ∷ any ∷ any ∷ [])) CookbookVersion (get later ∷ put later ∷ delete later ∷ [])
+    route (within (fixed (codes "cookbooks") ∷ [])) Cookbooks (get built ∷ [])
+    ∷ route (within (fixed (codes "cookbooks") ∷ any ∷ [])) Cookbook (get built ∷ [])
+    ∷ route (within (fixed (codes "cookbooks") ∷ any ∷ any ∷ [])) CookbookVersion (get built ∷ put built ∷ delete built ∷ [])
     ∷ route (within (fixed (codes "universe") ∷ [])) Universe (get later ∷ [])
     ∷ route (within (fixed (codes "cookbook_artifacts") ∷ [])) Artifacts (get later ∷ [])
     ∷ route (within (fixed (codes "cookbook_artifacts") ∷ any ∷ any ∷ [])) Artifact (get later ∷ put later ∷ delete later ∷ [])

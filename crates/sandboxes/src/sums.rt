@@ -66,6 +66,15 @@ impl Sums {
         self.items.as_slice()
     }
 
+    /// The checksums in the order of their bytes, moved out. It takes no memory.
+    pub fn into_vec(self) -> Vec<Checksum>
+        ensures value { result.items ≡ self }
+        ensures rising { IsRising self }
+    {
+        let Sums { items } = self;
+        items
+    }
+
     /// Whether there are no checksums.
     pub fn is_empty(&self) -> bool
         ensures { IsTrue result ↔ (self.now ≡ []) }

@@ -9,5 +9,5 @@ mod tests;
 mod walk;
 
 pub use flatten::pairs;
-pub use matching::matches;
+pub use matching::{is_wanted, matches};
 pub use pair::{Pair, Pairs};

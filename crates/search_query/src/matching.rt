@@ -96,7 +96,8 @@ fn is_met(field: &[u8], wanted: &Wanted, pair: &Pair) -> bool
     pair.field() == field && is_wanted(wanted, pair.value())
 }
 
-fn is_wanted(wanted: &Wanted, value: &[u8]) -> bool
+/// Whether a value is what is wanted. It takes no memory.
+pub fn is_wanted(wanted: &Wanted, value: &[u8]) -> bool
     ensures { IsTrue result ↔ IsWanted wanted.now value.now }
 {
     match wanted {

@@ -1,7 +1,6 @@
--- The files of an organisation that isn't there stay none.
+-- The files are those that the moves lead to.
 use Rattle.std.proofs.Common.{◌≡◌, List, ℕ, sym, ap, subst, ◌∙◌}
 use Rattle.sandboxes.specs.Files.{holding_of}
-use Rattle.org_core.proofs.FileLemmas.{moves_keep_files}
 use Rattle.org_core.specs.FileMoves.{after_all}
 use Rattle.org_core.specs.FullStates.{full_in, MeetsFileConditions}
 use Rattle.org_machine.proofs.serving.settle.Goals as goal
@@ -13,4 +12,4 @@ returns-clause-files c =
     ap (λ name. holding_of c.make_all.new.files name) c.make_all.ensures.name ∙ c.make_all.ensures.files in
     let same : full_in c.make_all.new.self c.make_all.new.files ≡ after_all org c.args.prepared.moves (full_in c.args.state.now c.args.files.now) =
     λ i. record { state = c.make_all.ensures.state i; files = files i } in
-    subst MeetsFileConditions (sym same) (moves_keep_files org c.args.prepared.moves (full_in c.args.state.now c.args.files.now) c.requires.files)
+    subst MeetsFileConditions (sym same) c.requires.files

@@ -1,18 +1,21 @@
 -- The organisation that `get_mut` lent is as the request left it, and each other as before.
 use Rattle.std.proofs.Common.{◌≡◌, ◌≢◌, List, ℕ, Some, None, sym, ap, subst, ◌∙◌, rules}
-use Rattle.org_core.specs.FullStates.{FullState, full_in}
+use Rattle.org_core.specs.FullStates.{FullState, MeetsFileConditions, full_in}
 use Rattle.org_core.specs.States.{Kept, state_in}
 use Rattle.sandboxes.specs.Files.{holding_of, OthersStay}
-use Rattle.chefsite.proofs.ShardLemmas.{states-written, stays_there, some_is, each-written, strangers-written}
+use Rattle.chefsite.proofs.ShardLemmas.{states-written, stays_there, some_is, each-written, conditions-written, stays-written}
 use Rattle.org_machine.specs.Marks.{mark_of}
-use Rattle.chefsite.specs.Organisations.{kept_at, state_at}
+use Rattle.chefsite.specs.Organisations.{kept_at, full_at, state_at}
 use Rattle.chefsite.proofs.shards.Shard.serve.Goals as goal
 
--- one that is kept is there, and so has no conditions to meet as a stranger
+-- the state that is kept under the name is the one that is lent
 pub serve-requires-clause-files : goal.serve-requires-clause-files
 serve-requires-clause-files g c =
     let was : kept_at c.args.self.now.organisations c.args.org.now ≡ Some c.in-Some.state.now = search rules in
-    λ none. absurd (c.args.self.now.there c.args.org.now c.in-Some.state.now was none)
+    let named : c.in-Some.state.now.name ≡ c.args.org.now = c.args.self.now.named c.args.org.now c.in-Some.state.now was in
+    let is : full_at c.args.self.now.organisations c.args.self.now.files c.args.org.now ≡ full_in c.in-Some.state.now c.args.self.now.files =
+    λ i. record { state = state_at (was i); files = holding_of c.args.self.now.files (sym named i) } in
+    subst MeetsFileConditions is (c.args.self.now.conditions c.args.org.now)
 
 pub returns-in-Some-clause-states : goal.returns-in-Some-clause-states
 returns-in-Some-clause-states g c =
@@ -39,12 +42,29 @@ invariant_of-self-clause-there g c =
     (λ kept same. subst (λ (k : Kept). state_in k ≢ None) (some_is c.serve.new.state kept same) there)
     c.args.self.now.there
 
--- and who isn't kept has no files, as before
-pub invariant_of-self-clause-strangers : goal.invariant_of-self-clause-strangers
-invariant_of-self-clause-strangers g c =
+-- a refusal leaves each as it was
+pub returns-in-Some-clause-stays : goal.returns-in-Some-clause-stays
+returns-in-Some-clause-stays g c =
     let was : kept_at c.args.self.now.organisations c.args.org.now ≡ Some c.in-Some.state.now = search rules in
     let named : c.in-Some.state.now.name ≡ c.args.org.now = c.args.self.now.named c.args.org.now c.in-Some.state.now was in
-    strangers-written c.args.self.now.organisations (c.get_mut.follows.lender c.serve.new.state) c.args.self.now.files c.serve.new.files c.args.org.now (Some c.serve.new.state)
+    λ refused. stays-written c.args.self.now.organisations (c.get_mut.follows.lender c.serve.new.state) c.args.self.now.files c.serve.new.files c.args.org.now c.args.request.now c.serve.result
+    (full_in c.in-Some.state.now c.args.self.now.files)
+    (returns-in-Some-clause-states g c) c.requires
+    (λ i. record { state = state_at (was i); files = holding_of c.args.self.now.files (sym named i) })
+    (sym c.serve.ensures.state ∙ c.serve.ensures.stays refused)
+
+-- and the files of each meet their conditions
+pub invariant_of-self-clause-conditions : goal.invariant_of-self-clause-conditions
+invariant_of-self-clause-conditions g c =
+    let was : kept_at c.args.self.now.organisations c.args.org.now ≡ Some c.in-Some.state.now = search rules in
+    let named : c.in-Some.state.now.name ≡ c.args.org.now = c.args.self.now.named c.args.org.now c.in-Some.state.now was in
+    let left_named : c.serve.new.state.name ≡ c.args.org.now = c.serve.ensures.name ∙ named in
+    conditions-written c.args.self.now.organisations (c.get_mut.follows.lender c.serve.new.state) c.args.self.now.files c.serve.new.files c.args.org.now c.args.request.now c.serve.result
+    (states-written c.args.self.now.organisations (c.get_mut.follows.lender c.serve.new.state) c.args.self.now.files c.serve.new.files c.args.org.now (Some c.serve.new.state)
+    (full_in c.in-Some.state.now c.args.self.now.files) c.args.request.now c.serve.result
     ((c.get_mut.follows.holds c.serve.new.state).3 (search rules)).0
     (subst (λ (name : List ℕ). OthersStay name c.args.self.now.files c.serve.new.files) named c.serve.ensures.others)
-    (λ none. cc) c.args.self.now.strangers
+    (λ i. record { state = state_at (was i); files = holding_of c.args.self.now.files (sym named i) })
+    c.requires
+    ((λ i. record { state = state_in c.serve.new.state; files = holding_of c.serve.new.files (sym left_named i) }) ∙ c.serve.ensures.state))
+    c.requires c.args.self.now.conditions

@@ -1,17 +1,19 @@
 -- What the request left of the organisation is kept under its name, if it is there.
 use Rattle.std.proofs.Common.{◌≡◌, ◌≢◌, List, ℕ, None, refl, sym, ap, subst, ◌∙◌}
-use Rattle.org_core.specs.FullStates.{full_in}
+use Rattle.org_core.specs.FullStates.{MeetsFileConditions, full_in}
 use Rattle.org_core.specs.States.{state_in}
 use Rattle.org_machine.specs.Marks.{mark_of, after}
 use Rattle.sandboxes.specs.Files.{holding_of, OthersStay}
 use Rattle.chefsite.specs.Organisations.{state_at, full_at, full_of, kept_if_there}
-use Rattle.chefsite.proofs.ShardLemmas.{states-written, state-if_there, there-if_there, named-if_there, gone-if_there, each-written, strangers-written}
+use Rattle.chefsite.proofs.ShardLemmas.{states-written, state-if_there, there-if_there, named-if_there, each-written, conditions-written}
 use Rattle.chefsite.proofs.shards.Shard.serve_new.Goals as goal
 
--- nothing was kept of it, so it has no files
+-- nothing was kept of it
 pub serve-reply-requires-clause-files : goal.serve-reply-requires-clause-files
 serve-reply-requires-clause-files g c =
-    λ none. ap (holding_of c.args.self.now.files) c.requires.name ∙ c.args.self.now.strangers c.args.key c.requires.absent
+    let was : full_at c.args.self.now.organisations c.args.self.now.files c.args.key ≡ full_in c.args.state c.args.self.now.files =
+    λ i. record { state = (ap state_at c.requires.absent ∙ sym c.requires.none) i; files = holding_of c.args.self.now.files (sym c.requires.name i) } in
+    subst MeetsFileConditions was (c.args.self.now.conditions c.args.key)
 
 pub returns-clause-states : goal.returns-clause-states
 returns-clause-states g c =
@@ -39,12 +41,20 @@ invariant_of-self-clause-named g c =
     each-written (λ name kept. kept.name ≡ name) c.args.self.now.organisations c.keep_if_there.new.organisations c.args.key (kept_if_there c.serve-reply.new.state)
     c.keep_if_there.ensures (named-if_there c.serve-reply.new.state c.args.key (c.serve-reply.ensures.name ∙ c.requires.name)) c.args.self.now.named
 
-pub invariant_of-self-clause-strangers : goal.invariant_of-self-clause-strangers
-invariant_of-self-clause-strangers g c =
+pub invariant_of-self-clause-conditions : goal.invariant_of-self-clause-conditions
+invariant_of-self-clause-conditions g c =
     let left = c.serve-reply.new.state in
     let files = c.serve-reply.new.files in
     let named : left.name ≡ c.args.key = c.serve-reply.ensures.name ∙ c.requires.name in
-    strangers-written c.args.self.now.organisations c.keep_if_there.new.organisations c.args.self.now.files files c.args.key (kept_if_there left)
+    let was : full_in c.args.state c.args.self.now.files ≡ full_at c.args.self.now.organisations c.args.self.now.files c.args.key =
+    λ i. record { state = (c.requires.none ∙ sym (ap state_at c.requires.absent)) i; files = holding_of c.args.self.now.files (c.requires.name i) } in
+    let is : full_of (kept_if_there left) (holding_of files c.args.key) ≡ full_in left files =
+    λ i. record { state = state-if_there left i; files = holding_of files (sym named i) } in
+    conditions-written c.args.self.now.organisations c.keep_if_there.new.organisations c.args.self.now.files files c.args.key c.args.request.now c.serve-reply.result
+    (states-written c.args.self.now.organisations c.keep_if_there.new.organisations c.args.self.now.files files c.args.key (kept_if_there left)
+    (full_at c.args.self.now.organisations c.args.self.now.files c.args.key) c.args.request.now c.serve-reply.result
     c.keep_if_there.ensures
     (subst (λ (name : List ℕ). OthersStay name c.args.self.now.files files) c.requires.name c.serve-reply.ensures.others)
-    (λ none. ap (holding_of files) (sym named) ∙ c.serve-reply.ensures.files (gone-if_there left none)) c.args.self.now.strangers
+    refl c.requires.of
+    (is ∙ c.serve-reply.ensures.state ∙ ap (after (mark_of c.serve-reply.result) c.args.request.now) was))
+    c.requires.of c.args.self.now.conditions

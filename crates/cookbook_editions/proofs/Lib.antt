@@ -1,0 +1,4 @@
+pub mod SaysLemmas
+pub mod NeedLemmas
+pub mod FreezeLemmas
+pub mod ShownLemmas

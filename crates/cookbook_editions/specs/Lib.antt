@@ -1,0 +1,6 @@
+pub mod Editions
+pub mod Frozen
+pub mod Shown
+pub mod Kept
+pub mod Parts
+pub mod Laws

@@ -1,0 +1,15 @@
+//! One stored version of a cookbook, typed: what is asked of its manifest often, without reading it anew.
+#![tactic(auto)]
+
+mod editions;
+mod laws;
+mod segments;
+mod showing;
+#[cfg(test)]
+mod tests;
+
+pub use editions::Edition;
+pub use laws::{
+    frozen_are_stored, manifests_are_kept, manifests_are_stored, stored_manifests_say, version_fits,
+};
+pub use showing::shown;

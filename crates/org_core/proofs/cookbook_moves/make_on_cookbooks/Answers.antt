@@ -1,0 +1,18 @@
+-- What is replaced frees the files that nothing names any more.
+use Rattle.std.proofs.Common.{◌≡◌, ◌∙◌, sym, ap, subst, List, ℕ}
+use Rattle.sandboxes.specs.Files.{holding_of}
+use Rattle.sandboxes.specs.Sandboxes.{released}
+use Rattle.org_core.specs.CookbookMoves.{unnamed}
+use Rattle.org_core.specs.States.{cookbooks_in}
+use Rattle.org_core.proofs.VersionLemmas.{none_dropped, released_is_dropped}
+use Rattle.org_core.proofs.cookbook_moves.make_on_cookbooks.Goals as goal
+
+pub returns-in-Some-clause-holding : goal.returns-in-Some-clause-holding
+returns-in-Some-clause-holding c =
+    c.drop_unnamed.ensures.holding
+    ∙ ap (λ cookbooks. released (unnamed cookbooks c.into_sums.result) (holding_of c.args.files.now c.args.org.now)) c.change.ensures.cookbooks
+    ∙ released_is_dropped c.args.one (cookbooks_in c.args.cookbooks.now) c.in-Some.gone c.into_sums.result (holding_of c.args.files.now c.args.org.now) (sym c.change.ensures.gone ∙ c.in-Some.is) c.into_sums.ensures.members
+
+pub returns-in_default-clause-holding : goal.returns-in_default-clause-holding
+returns-in_default-clause-holding c =
+    sym (none_dropped c.args.one (cookbooks_in c.args.cookbooks.now) (holding_of c.args.files.now c.args.org.now) (sym c.change.ensures.gone ∙ c.in_default.is))

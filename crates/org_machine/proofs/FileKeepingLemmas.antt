@@ -1,0 +1,121 @@
+-- Each step keeps the conditions of files.
+use Rattle.std.proofs.Common.{◌≡◌, ◌∙◌, ℕ, List, [], ◌∷◌, Option, Some, None, Result, Ok, Err, unwrap_or, ap, refl, subst, sym}
+use Rattle.std.specs.FinMap as finite
+use Rattle.doc_tree.specs.Doc.{Doc, dict, no_pairs}
+use Rattle.access_lists.specs.declared.perm.Perm.TheVariants as permission
+use Rattle.shelves.specs.Shelves.{text_cmp, value_at}
+use Rattle.version_rules.specs.Order.{version_cmp}
+use Rattle.version_rules.specs.declared.versions.Version.{Version}
+use Rattle.org_core.specs.States.{cookbooks_of}
+use Rattle.route_table.specs.declared.verbs.Verb.{Verb}
+use Rattle.route_table.specs.declared.verbs.Verb.TheVariants.{Get, Post, Put, Delete, Other}
+use Rattle.org_core.proofs.FileConditionsLemmas.{moves_keep_files}
+use Rattle.org_core.specs.declared.needs.Need.TheVariants.{Operator}
+use Rattle.org_core.specs.declared.refusals.Refusal.{Refusal}
+use Rattle.org_core.specs.declared.refusals.Refusal.TheVariants.{NotFound}
+use Rattle.org_core.specs.declared.requests.Body.{Body}
+use Rattle.org_core.specs.declared.requests.Place.{Place}
+use Rattle.org_core.specs.declared.requests.Place.TheVariants.{Of, Organisations, LeftOut, NoRoute, NoMemory}
+use Rattle.org_core.specs.declared.requests.Request.{Request}
+use Rattle.org_core.specs.declared.routes.Route.{Route}
+use Rattle.org_core.specs.declared.routes.Route.TheVariants.{Organisation, Objects, Data, Access, Cookbooks, Policies, Search}
+use Rattle.org_core.specs.Contexts.{Context}
+use Rattle.org_core.specs.FileMoves.{after_all}
+use Rattle.org_core.specs.FullStates.{FullState, MeetsFileConditions, none}
+use Rattle.org_core.specs.Keeping.{KeepsFileConditions, PutsNoVersions, full_of}
+use Rattle.org_core.specs.Needs.{lacking}
+use Rattle.org_core.specs.Outcomes.{Decided, outcome_of, shows, tells, unless}
+use Rattle.org_core.specs.Refusals.{refuses}
+use Rattle.org_core.specs.Requests.{org_at}
+use Rattle.org_core.specs.Rules.{Rules}
+use Rattle.access_routes.proofs.AccessLemmas.{access_puts_none}
+use Rattle.access_routes.specs.AccessRules.{access_rules}
+use Rattle.cookbook_routes.proofs.FileKeepingLemmas.{cookbooks_keep_files}
+use Rattle.cookbook_routes.specs.CookbookRules.{cookbook_rules}
+use Rattle.object_routes.proofs.VersionlessLemmas.{data_put_none, objects_put_none, organisations_put_none}
+use Rattle.object_routes.specs.DataBags.{data_rules}
+use Rattle.object_routes.specs.Objects.{objects_rules}
+use Rattle.object_routes.specs.Organisations.{organisation_rules}
+use Rattle.org_machine.specs.Heads.{head_refusal}
+use Rattle.org_machine.specs.Marks.{Mark, served, short, down, after, own_name}
+use Rattle.org_machine.specs.Order.{absence_refusal, permitted, found, by_operation, answered_by}
+use Rattle.org_machine.specs.Steps.{asks_for_organisation, at_organisations, at_place, at_route, context, step}
+
+-- what was decided leads from these files to files that meet their conditions
+abbrev LeadsTo : List ℕ → FullState → Decided → Type 0
+LeadsTo org full decided = MeetsFileConditions (after_all org (outcome_of decided.answer).moves full)
+
+unless_files : (org : List ℕ) (full : FullState) (refusal : Option Refusal) (done : Decided) → MeetsFileConditions full → (refusal ≡ None → LeadsTo org full done) → LeadsTo org full (unless refusal done)
+unless_files org full None done meets keeps = keeps refl
+unless_files org full (Some refusal) done meets keeps = meets
+
+module _ {Route Operation : Type 0} where
+  by_operation_files : (rules : Rules Route Operation) → KeepsFileConditions rules → (context : Context) (route : Route) (request : Request) (asked : Result Operation Refusal) → MeetsFileConditions (full_of context)
+      → rules.operation context route request ≡ asked → LeadsTo context.org (full_of context) (by_operation rules context asked)
+  by_operation_files rules keeps context route request (Err refusal) meets is = meets
+  by_operation_files rules keeps context route request (Ok operation) meets is =
+      unless_files context.org (full_of context) (refuses NotFound (rules.lacks context operation)) (found rules context operation) meets
+      (λ _. unless_files context.org (full_of context) (lacking context (rules.needs context operation)) (permitted rules context operation) meets
+      (λ _. unless_files context.org (full_of context) (rules.own_refusal context operation) (rules.does context operation) meets
+      (λ free. keeps context route request operation meets is free)))
+
+  answered_files : (rules : Rules Route Operation) → KeepsFileConditions rules → (context : Context) (route : Route) (request : Request) → MeetsFileConditions (full_of context)
+      → LeadsTo context.org (full_of context) (answered_by rules context route request)
+  answered_files rules keeps context route request meets = by_operation_files rules keeps context route request (rules.operation context route request) meets refl
+
+  -- a group that puts no cookbook version in keeps them
+  versionless_keeps : (rules : Rules Route Operation) → PutsNoVersions rules → KeepsFileConditions rules
+  versionless_keeps rules puts context route request operation meets is free = moves_keep_files context.org (outcome_of (rules.does context operation).answer).moves (full_of context) (puts context operation) meets
+
+-- a route keeps the conditions of files by the law of its group, one line a group
+at_route_files : (context : Context) (route : Route) (request : Request) → MeetsFileConditions (full_of context) → LeadsTo context.org (full_of context) (at_route context route request)
+at_route_files context (Organisation route) request meets = answered_files organisation_rules (versionless_keeps organisation_rules organisations_put_none) context route request meets
+at_route_files context (Objects collection route) request meets = answered_files (objects_rules collection) (versionless_keeps (objects_rules collection) (objects_put_none collection)) context route request meets
+at_route_files context (Data route) request meets = answered_files data_rules (versionless_keeps data_rules data_put_none) context route request meets
+at_route_files context (Access route) request meets = answered_files access_rules (versionless_keeps access_rules access_puts_none) context route request meets
+at_route_files context (Cookbooks route) request meets = answered_files cookbook_rules cookbooks_keep_files context route request meets
+at_route_files context (Policies route) request meets = meets
+at_route_files context (Search route) request meets = meets
+
+at_organisations_files : (state : FullState) (caller : Option (List ℕ)) (verb : Verb) (body : Body) → MeetsFileConditions state → LeadsTo [] state (at_organisations caller verb body)
+at_organisations_files state caller Get body meets = unless_files [] state (lacking (context [] caller none) (Operator permission.Read ∷ [])) (tells (shows (dict no_pairs))) meets (λ _. meets)
+at_organisations_files state caller Post body meets = meets
+at_organisations_files state caller Put body meets = meets
+at_organisations_files state caller Delete body meets = meets
+at_organisations_files state caller Other body meets = meets
+
+-- the name of the organisation at a place
+abbrev own_at : Place → List ℕ
+own_at place = unwrap_or (org_at place) []
+
+at_place_files : (place : Place) (request : Request) (state : FullState) → MeetsFileConditions state → LeadsTo (own_at place) state (at_place place request state)
+at_place_files (Of org route) request state meets =
+    unless_files org state (absence_refusal (asks_for_organisation route) (context org request.caller state)) (at_route (context org request.caller state) route request) meets
+    (λ _. at_route_files (context org request.caller state) route request meets)
+at_place_files Organisations request state meets = at_organisations_files state request.caller request.verb request.body meets
+at_place_files LeftOut request state meets = meets
+at_place_files NoRoute request state meets = meets
+at_place_files NoMemory request state meets = meets
+
+-- each step leads from files that meet their conditions to files that do
+pub step_keeps_files : (request : Request) (state : FullState) → MeetsFileConditions state → MeetsFileConditions (after_all (own_name request) (step request state).moves state)
+step_keeps_files request state meets = unless_files (own_name request) state (head_refusal request) (at_place request.place request state) meets (λ _. at_place_files request.place request state meets)
+
+-- and so does whatever befalls a request
+pub after_keeps_files : (mark : Mark) (request : Request) (state : FullState) → MeetsFileConditions state → MeetsFileConditions (after mark request state)
+after_keeps_files served request state meets = step_keeps_files request state meets
+after_keeps_files short request state meets = meets
+after_keeps_files down request state meets = meets
+
+-- where no organisation is, no cookbook version is
+nothing_at : (name : List ℕ) (version : Version) → value_at (cookbooks_of None) name version ≡ None
+nothing_at name version =
+    ap (λ (found : Option (finite.FinMap version_cmp Doc)). finite.get (unwrap_or found finite.empty) version) (finite.get-empty text_cmp name)
+    ∙ finite.get-empty {X = Doc} version_cmp version
+
+nobody_meets : MeetsFileConditions none
+nobody_meets = record { nobody = λ gone. refl; named = λ name version manifest sum at names. cc (sym (nothing_at name version) ∙ at) }
+
+-- an organisation that isn't there and has no files meets the conditions of files
+pub none_meets : (full : FullState) → full ≡ none → MeetsFileConditions full
+none_meets full is = subst MeetsFileConditions (sym is) nobody_meets

@@ -1,0 +1,10 @@
+mod EachLemmas
+mod HexLemmas
+mod LineLemmas
+mod LockLemmas
+mod MakeLemmas
+mod OrderLemmas
+mod PartLemmas
+mod PutLemmas
+mod SourceLemmas
+mod WholeLemmas

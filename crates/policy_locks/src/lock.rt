@@ -1,0 +1,42 @@
+//! Locks, and what they hold.
+use doc_tree::{Fields, Listed, Name, Text, Tree};
+use run_list::Items;
+use version_rules::Version;
+
+/// A run list under a name.
+#[derive(Drop)]
+pub struct NamedRunList {
+    pub name: Name,
+    pub run_list: Items,
+}
+
+/// Run lists under their names, in order: contracts see the list of them.
+pub type NamedRunLists = Listed<NamedRunList>;
+
+/// A cookbook that is locked: at a version, to the artifact of an identifier.
+#[derive(Debug, PartialEq, Eq, Drop)]
+pub struct CookbookLock {
+    pub name: Name,
+    pub version: Version,
+    pub identifier: Text,
+}
+
+/// Locked cookbooks, in order: contracts see the list of them.
+pub type CookbookLocks = Listed<CookbookLock>;
+
+/// A lock of a policy: its revision, the policy's name, its run list and named run lists, the cookbooks that it locks,
+/// its attributes and what its solution depends on, and the stored object, from which it is read again. The locked
+/// cookbooks of a lock that was read or made stand in the byte order of their names, and so do its named run lists where
+/// they were read.
+#[derive(Drop)]
+pub struct Lock {
+    pub revision_id: Name,
+    pub name: Name,
+    pub run_list: Items,
+    pub named_run_lists: NamedRunLists,
+    pub cookbook_locks: CookbookLocks,
+    pub default_attributes: Fields,
+    pub override_attributes: Fields,
+    pub solution_dependencies: Fields,
+    pub whole: Tree,
+}

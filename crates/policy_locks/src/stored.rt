@@ -1,0 +1,135 @@
+//! A lock as it is stored.
+ghost use Rattle.std.specs.Prelude.{◌≡◌, IfOk, OnOk, [], map};
+ghost use Rattle.doc_tree.specs.Doc.{pairs_of};
+ghost use Rattle.doc_tree.specs.Tree.{doc_of};
+ghost use Rattle.cookbook_meta.specs.Stored as kept;
+ghost use Rattle.policy_locks.specs.Stored as spec;
+
+use crate::lock::{NamedRunList, NamedRunLists};
+use crate::put::put_tree;
+use doc_tree::{Fields, NoMemory, Tree, Trees};
+use run_list::Items;
+use std::alloc::Global;
+
+/// The keys of the fields that aren't stored as they were sent.
+static SETTLED: [&str; 5] = [
+    "run_list",
+    "named_run_lists",
+    "default_attributes",
+    "override_attributes",
+    "solution_dependencies",
+];
+
+/// The stored object of a lock whose body is this one.
+pub(crate) fn whole_of(
+    alloc: Global,
+    run_list: &Items,
+    lists: &NamedRunLists,
+    default: &Fields,
+    over: &Fields,
+    solution: &Fields,
+    body: &Fields,
+) -> Result<Fields, NoMemory>
+    ensures { IfOk result (λ made. made ≡ spec.whole_of run_list.now lists.now default.now over.now solution.now (pairs_of body.now)) }
+{
+    let mut made = beside(alloc, body)?;
+    put_run_lists(alloc, &mut made, run_list, lists)?;
+    put_dicts(alloc, &mut made, default, over, solution)?;
+    Ok(made)
+}
+
+/// What a body has beside the fields that aren't stored as they were sent.
+fn beside(alloc: Global, body: &Fields) -> Result<Fields, NoMemory>
+    ensures { IfOk result (λ made. made ≡ kept.beside spec.is_settled body.now) }
+{
+    let mut made = Fields::new(alloc);
+    for field in body.as_slice() {
+        if !is_settled(field.key.as_str()) {
+            made.push(field.key.copy(alloc)?, field.tree.copy(alloc)?)?;
+        }
+    }
+    Ok(made)
+}
+
+fn is_settled(key: &str) -> bool
+    ensures { result ≡ spec.is_settled key.now }
+{
+    is_among(key, settled())
+}
+
+fn settled() -> &'static [&'static str]
+    ensures { map (λ s. s.now) result.now ≡ spec.settled_keys }
+{
+    &SETTLED
+}
+
+fn is_among(key: &str, keys: &[&str]) -> bool
+    ensures { result ≡ kept.is_among key.now (map (λ s. s.now) keys.now) }
+{
+    keys.contains(&key)
+}
+
+/// Puts in the run lists, as they are stored.
+pub(crate) fn put_run_lists(
+    alloc: Global,
+    made: &mut Fields,
+    run_list: &Items,
+    lists: &NamedRunLists,
+) -> Result<(), NoMemory>
+    ensures { OnOk result (made.new ≡ kept.with_pairs (spec.run_list_fields run_list.now lists.now) made.old) }
+{
+    let tree = run_list_tree(alloc, run_list)?;
+    put_tree(alloc, made, "run_list", tree)?;
+    let tree = named_tree(alloc, lists)?;
+    put_tree(alloc, made, "named_run_lists", tree)?;
+    Ok(())
+}
+
+/// Puts in the attributes, and what a solution depends on.
+pub(crate) fn put_dicts(
+    alloc: Global,
+    made: &mut Fields,
+    default: &Fields,
+    over: &Fields,
+    solution: &Fields,
+) -> Result<(), NoMemory>
+    ensures { OnOk result (made.new ≡ kept.with_pairs (spec.dict_fields default.now over.now solution.now) made.old) }
+{
+    let tree = Tree::Dict(default.copy(alloc)?);
+    put_tree(alloc, made, "default_attributes", tree)?;
+    let tree = Tree::Dict(over.copy(alloc)?);
+    put_tree(alloc, made, "override_attributes", tree)?;
+    let tree = Tree::Dict(solution.copy(alloc)?);
+    put_tree(alloc, made, "solution_dependencies", tree)?;
+    Ok(())
+}
+
+fn run_list_tree(alloc: Global, items: &Items) -> Result<Tree, NoMemory>
+    ensures { IfOk result (λ tree. doc_of tree ≡ spec.run_list_doc items.now) }
+{
+    let mut trees = Trees::with_capacity(alloc, items.len())?;
+    for item in items.as_slice() {
+        trees.push(Tree::Words(item.text().copy(alloc)?))?;
+    }
+    Ok(Tree::List(trees))
+}
+
+fn named_tree(alloc: Global, lists: &NamedRunLists) -> Result<Tree, NoMemory>
+    ensures { IfOk result (λ tree. doc_of tree ≡ spec.named_doc lists.now) }
+{
+    let mut made = Fields::new(alloc);
+    for named in lists.as_slice() {
+        put_named(alloc, &mut made, named)?;
+    }
+    Ok(Tree::Dict(made))
+}
+
+ghost use Rattle.doc_tree.specs.Part.{with_pair};
+
+fn put_named(alloc: Global, made: &mut Fields, named: &NamedRunList) -> Result<(), NoMemory>
+    ensures { OnOk result (made.new ≡ with_pair named.now.name (spec.run_list_doc named.now.run_list) made.old) }
+{
+    let tree = run_list_tree(alloc, &named.run_list)?;
+    put_tree(alloc, made, named.name.as_str(), tree)?;
+    Ok(())
+}

@@ -1,0 +1,127 @@
+-- First occurrences among names, and what items ask for, with one more at the end.
+use Rattle.std.proofs.Common.{◌≡◌, ℕ, ◌+◌, ◌<◌, Bool, true, false, not, cond, ◌||◌, ◌&&◌, List, [], ◌∷◌, ◌++◌, length, take, get_or, Option, Some, None, refl, sym, ap, subst, ◌∙◌}
+use Rattle.std.proofs.lemmas.List.{take_more}
+use Rattle.std.proofs.lemmas.List.Elements.{filter-append, filter_map-append}
+use Rattle.std.proofs.lemmas.Map.Keys.{IsDistinct-push}
+use Rattle.std.proofs.lemmas.Map.Made.{is_member-filter}
+use Rattle.std.specs.Cmp.{IsEquivalence}
+use Rattle.std.specs.Cmp.Lexicographic.{nat_list_eq_equiv}
+use Rattle.std.specs.List.{IsDistinct, cons_option, filter, filter_map}
+use Rattle.std.specs.Set.{is_member}
+use Rattle.run_list.specs.Stored.{Stored}
+use Rattle.dep_solver.specs.Names.{CookbookName, same_name}
+use Rattle.dep_solver.specs.Walks.{with_name}
+use Rattle.dep_solver.specs.declared.roots.Pin.{Pin}
+use Rattle.run_list_roots.specs.Asking.{cookbook_named, firsts, names_in, pin_of, pins_in}
+
+abbrev laws : IsEquivalence same_name
+laws = nat_list_eq_equiv
+
+append_none : {A : Type 0} (zs : List A) → zs ++ [] ≡ zs
+append_none [] = refl
+append_none (z ∷ zs) = ap (λ rest. z ∷ rest) (append_none zs)
+
+-- the names that aren't the same as this one
+abbrev others : CookbookName → List CookbookName → List CookbookName
+others name names = filter (λ other. not (same_name name other)) names
+
+-- a name is among the first occurrences where it is among all
+member_step : (x y : CookbookName) (xs : List CookbookName) (b : Bool) → same_name y x ≡ b → is_member same_name (firsts xs) y ≡ is_member same_name xs y
+    → (same_name y x || is_member same_name (others x (firsts xs)) y) ≡ (same_name y x || is_member same_name xs y)
+member_step x y xs true e rest =
+    ap (λ b. b || is_member same_name (others x (firsts xs)) y) e ∙ sym (ap (λ b. b || is_member same_name xs y) e)
+member_step x y xs false e rest =
+    let apart : same_name x y ≡ false = laws.symm x y ∙ e in
+    let same : (z : CookbookName) → same_name y z ≡ true → not (same_name x y) ≡ not (same_name x z) = λ z h. ap not (laws.symm x y ∙ laws.congr y z x h ∙ laws.symm z x) in
+    ap (λ b. same_name y x || b) (is_member-filter laws (λ other. not (same_name x other)) y same (firsts xs) ∙ ap (λ b. is_member same_name (firsts xs) y && not b) apart ∙ and_true (is_member same_name (firsts xs) y) ∙ rest)
+  where
+    and_true : (b : Bool) → (b && true) ≡ b
+    and_true true = refl
+    and_true false = refl
+
+member_firsts : (y : CookbookName) (xs : List CookbookName) → is_member same_name (firsts xs) y ≡ is_member same_name xs y
+member_firsts y [] = refl
+member_firsts y (x ∷ xs) = member_step x y xs (same_name y x) refl (member_firsts y xs)
+
+-- a name stands last where it is new
+abbrev behind : Bool → CookbookName → List CookbookName
+behind true y = []
+behind false y = y ∷ []
+
+others_behind : (x y : CookbookName) (b : Bool) → others x (behind b y) ≡ behind (same_name y x || b) y
+others_behind x y true = by (same_name y x)
+  where
+    by : (b : Bool) → [] ≡ behind (b || true) y
+    by true = refl
+    by false = refl
+others_behind x y false = ap (λ b. cond (not b) (y ∷ []) []) (laws.symm x y) ∙ by (same_name y x)
+  where
+    by : (b : Bool) → cond (not b) (y ∷ []) [] ≡ behind (b || false) y
+    by true = refl
+    by false = refl
+
+firsts_behind : (xs : List CookbookName) (y : CookbookName) → firsts (xs ++ y ∷ []) ≡ firsts xs ++ behind (is_member same_name xs y) y
+firsts_behind [] y = refl
+firsts_behind (x ∷ xs) y =
+    ap (λ zs. x ∷ others x zs) (firsts_behind xs y)
+    ∙ ap (λ zs. x ∷ zs) (filter-append (λ other. not (same_name x other)) (firsts xs) (behind (is_member same_name xs y) y)
+    ∙ ap (λ zs. others x (firsts xs) ++ zs) (others_behind x y (is_member same_name xs y)))
+
+nothing_behind : (zs : List CookbookName) (y : CookbookName) (b : Bool) → zs ++ behind b y ≡ cond b zs (zs ++ y ∷ [])
+nothing_behind zs y true = append_none zs
+nothing_behind zs y false = refl
+
+-- the first occurrences with one more name
+firsts_push : (xs : List CookbookName) (y : CookbookName) → firsts (xs ++ y ∷ []) ≡ with_name (firsts xs) y
+firsts_push xs y =
+    firsts_behind xs y ∙ ap (λ b. firsts xs ++ behind b y) (sym (member_firsts y xs)) ∙ nothing_behind (firsts xs) y (is_member same_name (firsts xs) y)
+
+-- the names stay distinct
+distinct_by : (names : List CookbookName) (name : CookbookName) (b : Bool) → is_member same_name names name ≡ b → IsDistinct same_name names
+    → IsDistinct same_name (cond b names (names ++ name ∷ []))
+distinct_by names name true e distinct = distinct
+distinct_by names name false e distinct = IsDistinct-push laws names name distinct e
+
+pub distinct_kept : (names : List CookbookName) (name : CookbookName) → IsDistinct same_name names → IsDistinct same_name (with_name names name)
+distinct_kept names name distinct = distinct_by names name (is_member same_name names name) refl distinct
+
+pub distinct_none : IsDistinct same_name []
+unfolding IsDistinct
+distinct_none = tt
+
+-- ---- one more item
+
+filter_map_push : {A B : Type 0} (h : A → Option B) (xs : List A) (x : A) (o : Option B) → h x ≡ o → filter_map h (xs ++ x ∷ []) ≡ filter_map h xs ++ cons_option o []
+filter_map_push h xs x o e = filter_map-append h xs (x ∷ []) ∙ ap (λ o. filter_map h xs ++ cons_option o []) e
+
+-- the items up to one more
+items_more : (items : List Stored) (i : ℕ) (item : Stored) → i < length items → item ≡ get_or items i item → take (i + 1) items ≡ take i items ++ item ∷ []
+items_more items i item within is = take_more items i item within ∙ ap (λ z. take i items ++ z ∷ []) (sym is)
+
+-- the names are those that the first items ask for, each once
+abbrev pub AreNames : List Stored → ℕ → List CookbookName → Type 0
+AreNames items i names = (names ≡ names_in (take i items)) × IsDistinct same_name names
+
+pub named_more : (items : List Stored) (i : ℕ) (item : Stored) (names more : List CookbookName) (cookbook : CookbookName) → i < length items → item ≡ get_or items i item → cookbook_named item ≡ Some cookbook
+    → AreNames items i names → more ≡ with_name names cookbook → AreNames items (i + 1) more
+named_more items i item names more cookbook within is asks before e =
+    let all : names_in (take (i + 1) items) ≡ with_name (names_in (take i items)) cookbook =
+    ap names_in (items_more items i item within is) ∙ ap firsts (filter_map_push cookbook_named (take i items) item (Some cookbook) asks) ∙ firsts_push (filter_map cookbook_named (take i items)) cookbook in
+    (e ∙ ap (λ ns. with_name ns cookbook) before.0 ∙ sym all, subst (IsDistinct same_name) (sym e) (distinct_kept names cookbook before.1))
+
+pub unnamed_more : (items : List Stored) (i : ℕ) (item : Stored) (names more : List CookbookName) → i < length items → item ≡ get_or items i item → cookbook_named item ≡ None
+    → AreNames items i names → more ≡ names → AreNames items (i + 1) more
+unnamed_more items i item names more within is asks before e =
+    let all : names_in (take (i + 1) items) ≡ names_in (take i items) =
+    ap names_in (items_more items i item within is) ∙ ap firsts (filter_map_push cookbook_named (take i items) item None asks ∙ append_none (filter_map cookbook_named (take i items))) in
+    (e ∙ before.0 ∙ sym all, subst (IsDistinct same_name) (sym e) before.1)
+
+pub pinned_more : (items : List Stored) (i : ℕ) (item : Stored) (pins more : List Pin) (pin : Pin) → i < length items → item ≡ get_or items i item → pin_of item.named ≡ Some pin
+    → pins ≡ pins_in (take i items) → more ≡ pins ++ pin ∷ [] → more ≡ pins_in (take (i + 1) items)
+pinned_more items i item pins more pin within is asks before e =
+    e ∙ ap (λ ps. ps ++ pin ∷ []) before ∙ sym (ap pins_in (items_more items i item within is) ∙ filter_map_push (λ item. pin_of item.named) (take i items) item (Some pin) asks)
+
+pub unpinned_more : (items : List Stored) (i : ℕ) (item : Stored) (pins more : List Pin) → i < length items → item ≡ get_or items i item → pin_of item.named ≡ None
+    → pins ≡ pins_in (take i items) → more ≡ pins → more ≡ pins_in (take (i + 1) items)
+unpinned_more items i item pins more within is asks before e =
+    e ∙ before ∙ sym (ap pins_in (items_more items i item within is) ∙ filter_map_push (λ item. pin_of item.named) (take i items) item None asks ∙ append_none (pins_in (take i items)))

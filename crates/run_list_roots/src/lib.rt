@@ -1,0 +1,8 @@
+//! What the items of run lists ask of the solver: the cookbooks of their recipes, and the versions that they state.
+#![tactic(auto)]
+
+mod asking;
+#[cfg(test)]
+mod tests;
+
+pub use asking::{names_a_role, roots_of};

@@ -1,0 +1,15 @@
+pub mod ChainLemmas
+pub mod NetLemmas
+pub mod WalkLemmas
+pub mod KeyLemmas
+pub mod OrderLemmas
+pub mod EqualKeys
+pub mod GivenLemmas
+pub mod GoneLemmas
+pub mod Neighbours
+pub mod FoundLemmas
+pub mod SeekLemmas
+pub mod BoundsLemmas
+pub mod NameLemmas
+pub mod FindLemmas
+pub mod CallerLemmas

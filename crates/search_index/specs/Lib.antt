@@ -1,0 +1,11 @@
+pub mod Posting
+pub mod Chains
+pub mod Net
+pub mod Keys
+pub mod Scope
+pub mod KeyOrder
+pub mod Arena
+pub mod Found
+pub mod Names
+pub mod Seeking
+pub mod Bounds

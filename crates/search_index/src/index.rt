@@ -1,0 +1,168 @@
+//! The index.
+ghost use Rattle.std.specs.Prelude.{◌≡◌, ◌≢◌, ◌↔◌, ◌+◌, ◌≤◌, ℕ, List, IfOk, IsTrue, OnOk, Some, [], length};
+ghost use Rattle.std.specs.Cmp.Lexicographic.{slice_cmp};
+ghost use Rattle.std.specs.List.Sorted.{IsStrictlySortedBy};
+ghost use Rattle.std.specs.Ordering.{nat_cmp};
+ghost use Rattle.search_query.specs.Matching.{Meets};
+ghost use Rattle.search_query.specs.Pair.{Pair};
+ghost use Rattle.search_index.specs.Names.{lists_name};
+ghost use Rattle.search_index.specs.Arena.{AddsObject, DropsObject, HasObject, HasRoom, LosesRoom, SameObjects};
+ghost use Rattle.search_index.specs.Keys.{key_of};
+ghost use Rattle.search_index.specs.declared.key.ObjectKey.{ObjectKey as Key};
+
+use crate::arena::{add, drop_first};
+use crate::key::{ObjectAt, ObjectKey, TermKey};
+use crate::names::{in_order, names_of};
+use crate::ordered::{Ordered, Whole};
+use crate::postings::Postings;
+use crate::scope::Scope;
+use crate::seek::any;
+use doc_tree::{NoMemory, Text, Texts};
+use query_text::Query;
+use search_query::Pairs;
+use std::alloc::Global;
+use std::marker::Model;
+
+/// The pairs of the objects of all scopes, as postings in one arena. Contracts see which objects are there, which pairs
+/// each has, and how many more fit without memory.
+#[derive(Drop)]
+pub struct Index {
+    scopes: Ordered<Scope>,
+    objects: Ordered<ObjectKey>,
+    terms: Ordered<TermKey>,
+    postings: Postings,
+}
+
+impl Model for Index {
+    ghost use Rattle.search_index.specs.Arena.{Contents, contents_code};
+
+    ghost Value = { Contents };
+
+    ghost coded = { contents_code };
+
+    ghost use Rattle.search_index.specs.Arena.{IsWhole};
+
+    ghost view = { λ i. record { scopes = i.scopes; objects = i.objects; terms = i.terms; net = i.postings } };
+
+    ghost invariant = { λ i. IsWhole (record { scopes = i.scopes; objects = i.objects; terms = i.terms; net = i.postings }) };
+}
+
+impl Index {
+    ghost use Rattle.search_index.specs.Arena.{IsEmpty};
+
+    /// No object, and no room. It takes no memory.
+    pub fn none(alloc: Global) -> Index
+        ensures { IsEmpty result }
+    {
+        Index {
+            scopes: Ordered::none(alloc),
+            objects: Ordered::none(alloc),
+            terms: Ordered::none(alloc),
+            postings: Postings::none(alloc),
+        }
+    }
+
+    /// Makes room for so many more objects, postings and terms. The objects and their pairs are as they were, and the room
+    /// isn't less, also where there is no memory.
+    pub fn reserve(&mut self, objects: usize, postings: usize, terms: usize) -> Result<(), NoMemory>
+        ensures same { SameObjects self.old self.new }
+        ensures ok { OnOk result (HasRoom self.new objects postings terms) }
+        ensures room { LosesRoom self.old self.new 0 0 0 }
+    {
+        let more_scopes = objects.saturating_sub(self.scopes.room());
+        let more_objects = objects.saturating_sub(self.objects.room());
+        let more_terms = terms.saturating_sub(self.terms.room());
+        let Some(all_objects) = self.objects.size().checked_add(more_objects) else {
+            return Err(NoMemory);
+        };
+        let Some(all_terms) = self.terms.size().checked_add(more_terms) else {
+            return Err(NoMemory);
+        };
+        self.postings.reserve(postings, all_objects, all_terms)?;
+        self.scopes.grow(more_scopes)?;
+        self.objects.grow(more_objects)?;
+        self.terms.grow(more_terms)?;
+        Ok(())
+    }
+
+    /// Puts in an object, which isn't there, with its pairs. It takes no memory.
+    pub fn insert(&mut self, scope: Scope, name: Text, pairs: Pairs)
+        requires absent { HasObject self.old scope name → ⊥ }
+        requires room { HasRoom self.old 1 (length pairs) (length pairs) }
+        ensures adds { AddsObject self.old self.new scope name pairs }
+        ensures room { LosesRoom self.old self.new 1 (length pairs) (length pairs) }
+    {
+        let number = self.scopes.number_of(scope);
+        let object = self.objects.insert(ObjectKey {
+            scope: number,
+            name,
+        });
+        let mut left = pairs.into_vec();
+        while let Some(pair) = left.pop() {
+            let key = TermKey {
+                scope: number,
+                pair,
+            };
+            add(&mut self.terms, &mut self.postings, object, key);
+        }
+    }
+
+    /// Takes out an object with its pairs, where it is there. It takes no memory.
+    pub fn remove(&mut self, scope: &Scope, name: &Text)
+        ensures drops { DropsObject self.old self.new scope.now name.now }
+        ensures room { LosesRoom self.old self.new 0 0 0 }
+    {
+        let Some(number) = self.scopes.find(&Whole(scope)) else {
+            return;
+        };
+        let sought = ObjectAt {
+            scope: number,
+            name: name.as_bytes(),
+        };
+        let Some(object) = self.objects.find(&sought) else {
+            return;
+        };
+        while drop_first(&mut self.terms, &mut self.postings, object) {}
+        self.objects.remove(object);
+        if is_empty(&self.objects, number) {
+            self.scopes.remove(number);
+        }
+    }
+}
+
+impl Index {
+    ghost use Rattle.search_index.specs.Arena.{ArePairs};
+
+    /// The names of the objects of a scope whose pairs meet a query, in the order of their bytes, each once.
+    pub fn find(&self, alloc: Global, scope: &Scope, query: &Query) -> Result<Texts, NoMemory>
+        ensures found { IfOk result (λ names. (name : List ℕ) (pairs : List Pair) → HasObject self.now scope.now name → ArePairs self.now scope.now name pairs → IsTrue (lists_name names name) ↔ Meets query.now pairs) }
+        ensures objects { IfOk result (λ names. (name : List ℕ) → IsTrue (lists_name names name) → HasObject self.now scope.now name) }
+        ensures rising { IfOk result (IsStrictlySortedBy (slice_cmp nat_cmp)) }
+    {
+        let Some(number) = self.scopes.find(&Whole(scope)) else {
+            return Ok(in_order(Vec::new(alloc)));
+        };
+        let next = self.scopes.after(number);
+        let found = any(alloc, &self.terms, &self.postings, number, query)?;
+        let names = names_of(alloc, &self.objects, number, next, &found)?;
+        Ok(in_order(names))
+    }
+}
+
+/// Whether a scope has no object.
+fn is_empty(objects: &Ordered<ObjectKey>, number: usize) -> bool
+    ensures { IsTrue result → (i : ℕ) (x : Key) → key_of objects.now i ≡ Some x → x.scope ≢ number }
+{
+    let Some(next) = number.checked_add(1) else {
+        return false;
+    };
+    let low = ObjectAt {
+        scope: number,
+        name: &[],
+    };
+    let high = ObjectAt {
+        scope: next,
+        name: &[],
+    };
+    objects.between(&low, &high).is_empty()
+}

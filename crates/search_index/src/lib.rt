@@ -1,0 +1,19 @@
+//! The pairs of all objects of a site, as postings linked by index, and the objects that a query finds.
+#![tactic(auto)]
+
+mod arena;
+mod bounds;
+mod found;
+mod index;
+mod key;
+mod names;
+mod ordered;
+mod posting;
+mod postings;
+mod scope;
+mod seek;
+#[cfg(test)]
+mod tests;
+
+pub use index::Index;
+pub use scope::Scope;

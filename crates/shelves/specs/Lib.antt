@@ -1,0 +1,4 @@
+pub mod Places
+pub mod SortedMap
+pub mod Shelves
+pub mod Rooms
