@@ -1,7 +1,8 @@
 -- What is made of each: one by one, and made again.
 use Rattle.std.proofs.Common.{◌≡◌, ℕ, Bool, true, false, cond, List, [], ◌∷◌, map, Option, Some, None, option_map, option_and_then, Ok, ok_or, refl, sym, ap, ◌∙◌}
 use Rattle.cookbook_meta.proofs.DoneLemmas.{same_ok}
-use Rattle.policy_locks.specs.Parts.{each_of, kept_if}
+use Rattle.policy_locks.specs.Parts.{kept_if}
+use Rattle.run_list_roots.specs.Reading.{each_of}
 
 abbrev from_some : {A : Type 0} → A → Option A → A
 from_some other (Some x) = x

@@ -4,7 +4,6 @@ mod LineLemmas
 mod LockLemmas
 mod MakeLemmas
 mod OrderLemmas
-mod PartLemmas
 mod PutLemmas
 mod SourceLemmas
 mod WholeLemmas

@@ -17,7 +17,8 @@ use Rattle.cookbook_meta.specs.Faults.{then_do}
 use Rattle.cookbook_meta.specs.Stored.{beside, with_pairs}
 use Rattle.cookbook_meta.proofs.DoneLemmas.{same_ok, then_done}
 use Rattle.cookbook_meta.proofs.PutLemmas.{at_other, at_own, beside-puts, beside-twice}
-use Rattle.policy_locks.specs.Parts.{cookbook_locks, dict_of, each_of, item_named, item_of, kept_if, may, must, name_of, named_run_list, named_run_lists, read_or, run_list_of}
+use Rattle.policy_locks.specs.Parts.{cookbook_locks, dict_of, kept_if, may, must, name_of, named_run_list, named_run_lists, read_or}
+use Rattle.run_list_roots.specs.Reading.{each_of, item_named, item_of, run_list_of}
 use Rattle.policy_locks.specs.Outcomes.{Gives}
 use Rattle.policy_locks.specs.Reading.{IsInOrder, lock_from, lock_in, policy_name}
 use Rattle.policy_locks.specs.declared.fault.LockFault.{LockFault}

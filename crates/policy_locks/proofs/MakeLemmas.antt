@@ -16,7 +16,7 @@ use Rattle.doc_tree.specs.declared.tree.Tree.{Tree}
 use Rattle.cookbook_meta.specs.Stored.{with_pairs}
 use Rattle.policy_locks.specs.Digests.{digest_text}
 use Rattle.policy_locks.specs.Making.{AreBest, AreRootsOf, IsMadeWith, is_unidentified, locked, source_fields, source_lines}
-use Rattle.policy_locks.specs.Parts.{each_of}
+use Rattle.run_list_roots.specs.Reading.{each_of}
 use Rattle.policy_locks.specs.declared.identifiers.Identified.{Identified}
 use Rattle.policy_locks.specs.declared.lock.CookbookLock.{CookbookLock}
 use Rattle.policy_locks.specs.declared.lock.Lock.{Lock}

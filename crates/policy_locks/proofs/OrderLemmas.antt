@@ -9,7 +9,8 @@ use Rattle.run_list.specs.Stored.{Stored}
 use Rattle.version_rules.specs.Terms.{Terms}
 use Rattle.version_rules.specs.declared.needs.Need.{Need}
 use Rattle.version_rules.specs.declared.versions.Version.{Version}
-use Rattle.policy_locks.specs.Parts.{constraint_of, cookbook_lock, cookbook_locks, dict_of, each_of, items_read, kept_if, locked_at, identifier_of, named_run_list, named_run_lists, need_of, needs_of, read_or, version_of}
+use Rattle.run_list_roots.specs.Reading.{each_of}
+use Rattle.policy_locks.specs.Parts.{constraint_of, cookbook_lock, cookbook_locks, dict_of, items_read, kept_if, locked_at, identifier_of, named_run_list, named_run_lists, need_of, needs_of, read_or, version_of}
 use Rattle.policy_locks.specs.declared.lock.CookbookLock.{CookbookLock}
 use Rattle.policy_locks.specs.declared.lock.NamedRunList.{NamedRunList}
 use Rattle.policy_locks.specs.declared.parts.Allowed.{Allowed}

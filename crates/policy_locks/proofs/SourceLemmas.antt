@@ -8,7 +8,8 @@ use Rattle.version_rules.specs.declared.needs.Need.{Need}
 use Rattle.cookbook_meta.specs.Faults.{then_do}
 use Rattle.cookbook_meta.proofs.DoneLemmas.{same_ok, then_done}
 use Rattle.policy_locks.specs.Outcomes.{Gives}
-use Rattle.policy_locks.specs.Parts.{dict_of, may, must, name_of, named_run_lists, needs_of, read_or, recipes_of}
+use Rattle.policy_locks.specs.Parts.{dict_of, may, must, name_of, named_run_lists, needs_of, read_or}
+use Rattle.run_list_roots.specs.Reading.{recipes_of}
 use Rattle.policy_locks.specs.Sources.{IsInOrder, source_in}
 use Rattle.policy_locks.specs.declared.fault.LockFault.{LockFault}
 use Rattle.policy_locks.specs.declared.lock.NamedRunList.{NamedRunList}

@@ -1,6 +1,6 @@
 -- The parts of a lock's body: names, run lists, locked cookbooks and Dicts.
-use Rattle.std.specs.Prelude.{ℕ, Bool, if◌then◌else◌, List, [], ◌∷◌, Option, Some, None, option_map, option_and_then, Result, Ok, Err, ok_or, codes}
-use Rattle.doc_tree.specs.Doc.{Doc, words, list, dict, docs_list, Pairs, pairs_of, pairs_list}
+use Rattle.std.specs.Prelude.{ℕ, Bool, if◌then◌else◌, List, Option, Some, None, option_map, option_and_then, Result, Ok, Err, ok_or, codes}
+use Rattle.doc_tree.specs.Doc.{Doc, words, dict, Pairs, pairs_of, pairs_list}
 use Rattle.doc_tree.specs.Name.{is_name}
 use Rattle.doc_tree.specs.Part.{pair_at}
 use Rattle.version_rules.specs.Constraints.{reads_constraint}
@@ -8,21 +8,13 @@ use Rattle.version_rules.specs.Terms.{Terms}
 use Rattle.version_rules.specs.Versions.{reads_version}
 use Rattle.version_rules.specs.declared.needs.Need.{Need}
 use Rattle.version_rules.specs.declared.versions.Version.{Version}
-use Rattle.run_list.specs.Items.{reads_item, stored_text}
 use Rattle.run_list.specs.Stored.{Stored}
-use Rattle.run_list.specs.declared.fault.ItemFault.{ItemFault}
-use Rattle.run_list.specs.declared.names.Named.{Named}
-use Rattle.run_list_roots.specs.Asking.{has_role}
+pub use Rattle.run_list_roots.specs.Reading.{each_of, recipes_of, run_list_of}
 use Rattle.cookbook_meta.specs.Parts.{is_identifier}
 use Rattle.policy_locks.specs.declared.lock.CookbookLock.{CookbookLock}
 use Rattle.policy_locks.specs.declared.lock.NamedRunList.{NamedRunList}
 use Rattle.policy_locks.specs.declared.parts.Allowed.{Allowed}
 use Rattle.policy_locks.specs.declared.parts.Allowed.TheVariants.{Items, Recipes}
-
--- what is made of each of these, if something is of each
-abbrev pub each_of : {X Y : Type 0} → (X → Option Y) → List X → Option (List Y)
-each_of make [] = Some []
-each_of make (x ∷ xs) = option_and_then (λ y. option_map (λ ys. y ∷ ys) (each_of make xs)) (make x)
 
 -- the text, if it passes the test
 abbrev pub kept_if : (List ℕ → Bool) → List ℕ → Option (List ℕ)
@@ -58,25 +50,6 @@ constraint_of d = option_and_then (λ text. read_ok (reads_constraint text)) (te
 abbrev pub dict_of : Doc → Option (List (List ℕ × Doc))
 dict_of (dict ps) = Some (pairs_list ps)
 dict_of d = None
-
--- the item that a text spells
-abbrev pub item_named : List ℕ → Result Named ItemFault → Option Stored
-item_named text (Ok named) = Some (record { text = stored_text text; named = named })
-item_named text (Err fault) = None
-
--- the item that a document is
-abbrev pub item_of : Doc → Option Stored
-item_of (words text) = item_named text (reads_item text)
-item_of d = None
-
--- the run list that a document is: a list of items
-abbrev pub run_list_of : Doc → Option (List Stored)
-run_list_of (list ds) = each_of item_of (docs_list ds)
-run_list_of d = None
-
--- the run list that a document is, where none of its items is a role
-abbrev pub recipes_of : Doc → Option (List Stored)
-recipes_of d = option_and_then (λ items. if has_role items then None else Some items) (run_list_of d)
 
 -- what a run list that may hold these items is read as
 abbrev pub items_read : Allowed → Doc → Option (List Stored)

@@ -7,9 +7,9 @@ ghost use Rattle.policy_locks.specs.Parts as spec;
 
 use crate::lock::{CookbookLock, CookbookLocks, NamedRunList, NamedRunLists};
 use cookbook_meta::is_identifier;
-use doc_tree::{Field, Fields, Name, NoMemory, Text, Tree, Trees};
-use run_list::{Item, ItemFault, Items, read_item};
-use run_list_roots::names_a_role;
+use doc_tree::{Field, Fields, Name, NoMemory, Text, Tree};
+use run_list::Items;
+use run_list_roots::{recipes_of, run_list_of};
 use std::alloc::Global;
 use version_rules::{Constraint, Need, Needs, Version, read_constraint, read_version};
 
@@ -136,63 +136,6 @@ pub(crate) fn items_read(
     match allowed {
         Allowed::Items => run_list_of(alloc, tree),
         Allowed::Recipes => recipes_of(alloc, tree),
-    }
-}
-
-fn recipes_of(alloc: Global, tree: &Tree) -> Result<Option<Items>, NoMemory>
-    ensures { IfOk result (λ found. found ≡ spec.recipes_of (doc_of tree.now)) }
-{
-    match run_list_of(alloc, tree)? {
-        Some(items) => {
-            if names_a_role(items.as_slice()) {
-                Ok(None)
-            } else {
-                Ok(Some(items))
-            }
-        }
-        None => Ok(None),
-    }
-}
-
-#[tactic(auto, using(doc_tree::proofs::Docs::back))]
-fn run_list_of(alloc: Global, tree: &Tree) -> Result<Option<Items>, NoMemory>
-    ensures { IfOk result (λ found. found ≡ spec.run_list_of (doc_of tree.now)) }
-{
-    match tree {
-        Tree::List(trees) => items_of(alloc, trees),
-        Tree::Null | Tree::Bool(_) | Tree::Whole(_) | Tree::Words(_) | Tree::Dict(_) => Ok(None),
-    }
-}
-
-fn items_of(alloc: Global, trees: &Trees) -> Result<Option<Items>, NoMemory>
-    ensures { IfOk result (λ found. found ≡ spec.each_of spec.item_of trees.now) }
-{
-    let mut items = Items::new(alloc);
-    for tree in trees.as_slice() {
-        match item_of(alloc, tree)? {
-            None => return Ok(None),
-            Some(item) => items.push(item)?,
-        }
-    }
-    Ok(Some(items))
-}
-
-fn item_of(alloc: Global, tree: &Tree) -> Result<Option<Item>, NoMemory>
-    ensures { IfOk result (λ found. found ≡ spec.item_of (doc_of tree.now)) }
-{
-    match tree {
-        Tree::Words(text) => item_in(alloc, text),
-        Tree::Null | Tree::Bool(_) | Tree::Whole(_) | Tree::List(_) | Tree::Dict(_) => Ok(None),
-    }
-}
-
-fn item_in(alloc: Global, text: &Text) -> Result<Option<Item>, NoMemory>
-    ensures { IfOk result (λ found. found ≡ spec.item_of (words text.now)) }
-{
-    match read_item(alloc, text) {
-        Ok(item) => Ok(Some(item)),
-        Err(ItemFault::NotAnItem | ItemFault::BadVersion) => Ok(None),
-        Err(ItemFault::NoMemory) => Err(NoMemory),
     }
 }
 

@@ -1,5 +1,6 @@
 -- First occurrences among names, and what items ask for, with one more at the end.
 use Rattle.std.proofs.Common.{◌≡◌, ℕ, ◌+◌, ◌<◌, Bool, true, false, not, cond, ◌||◌, ◌&&◌, List, [], ◌∷◌, ◌++◌, length, take, get_or, Option, Some, None, refl, sym, ap, subst, ◌∙◌}
+use Rattle.std.proofs.Props.{props}
 use Rattle.std.proofs.lemmas.List.{take_more}
 use Rattle.std.proofs.lemmas.List.Elements.{filter-append, filter_map-append}
 use Rattle.std.proofs.lemmas.Map.Keys.{IsDistinct-push}
@@ -8,10 +9,12 @@ use Rattle.std.specs.Cmp.{IsEquivalence}
 use Rattle.std.specs.Cmp.Lexicographic.{nat_list_eq_equiv}
 use Rattle.std.specs.List.{IsDistinct, cons_option, filter, filter_map}
 use Rattle.std.specs.Set.{is_member}
+use mathlib.Core.HLevel.{Σ_prop_path}
 use Rattle.run_list.specs.Stored.{Stored}
 use Rattle.dep_solver.specs.Names.{CookbookName, same_name}
 use Rattle.dep_solver.specs.Walks.{with_name}
 use Rattle.dep_solver.specs.declared.roots.Pin.{Pin}
+use Rattle.dep_solver.specs.declared.roots.Roots.{Roots}
 use Rattle.run_list_roots.specs.Asking.{cookbook_named, firsts, names_in, pin_of, pins_in}
 
 abbrev laws : IsEquivalence same_name
@@ -125,3 +128,11 @@ pub unpinned_more : (items : List Stored) (i : ℕ) (item : Stored) (pins more :
     → pins ≡ pins_in (take i items) → more ≡ pins → more ≡ pins_in (take (i + 1) items)
 unpinned_more items i item pins more within is asks before e =
     e ∙ before ∙ sym (ap pins_in (items_more items i item within is) ∙ filter_map_push (λ item. pin_of item.named) (take i items) item None asks ∙ append_none (pins_in (take i items)))
+
+-- ---- roots are told by their names and pins
+
+pub same_roots : (a b : Roots) → a.names ≡ b.names → a.pins ≡ b.pins → a ≡ b
+same_roots a b names pins =
+    let once : (ns : List CookbookName) → IsProp (IsDistinct same_name ns) = λ ns. hlevel props in
+    let pairs : ◌≡◌ {A = (ns : List CookbookName) × IsDistinct same_name ns} (a.names, a.distinct) (b.names, b.distinct) = Σ_prop_path once names in
+    λ i. record { names = (pairs i).0; pins = pins i; distinct = (pairs i).1 }

@@ -5,6 +5,7 @@ ghost use Rattle.std.specs.Set.{is_member};
 ghost use Rattle.dep_solver.specs.Names.{same_name};
 ghost use Rattle.dep_solver.specs.Walks.{with_name};
 ghost use Rattle.run_list_roots.specs.Asking.{has_role, names_in, pin_of, pins_in};
+ghost use Rattle.run_list_roots.specs.Roots.{roots_in};
 
 use dep_solver::{Pin, Pins, Roots};
 use doc_tree::{Name, Names, NoMemory};
@@ -17,6 +18,7 @@ use std::alloc::Global;
 pub fn roots_of(alloc: Global, items: &[Item]) -> Result<Roots, NoMemory>
     ensures names { IfOk result (λ roots. roots.names ≡ names_in items.now) }
     ensures pins { IfOk result (λ roots. roots.pins ≡ pins_in items.now) }
+    ensures roots { IfOk result (λ roots. roots ≡ roots_in items.now) }
 {
     let names = names_in(alloc, items)?;
     let pins = pins_in(alloc, items)?;

@@ -1,7 +1,7 @@
-use crate::{names_a_role, roots_of};
+use crate::{names_a_role, recipes_of, roots_of, run_list_of};
 use dep_solver::Roots;
-use doc_tree::Text;
-use run_list::{Item, ItemFault, read_item};
+use doc_tree::{NoMemory, Text, Tree, Trees};
+use run_list::Item;
 use std::alloc::{AllocError, Global};
 use std::test::Fail;
 
@@ -13,17 +13,17 @@ role[b] a role[a] c => a c /  / a role
 role[a] =>  /  / a role
 a@1.0.0 b a@2.0 => a b / a 1.0.0, a 2.0.0 / no role
 b@1.2 recipe[a::x@0.1.0] b => b a / b 1.2.0, a 0.1.0 / no role
+a recipe[ => no run list
+a@1 b => no run list
 ";
 
-fn items_in(alloc: Global, texts: &str) -> Result<Vec<Item>, ItemFault> {
-    let mut items = Vec::new(alloc);
+// These texts as a document says them.
+fn list_of(alloc: Global, texts: &str) -> Result<Tree, NoMemory> {
+    let mut trees = Trees::new(alloc);
     for text in texts.split_whitespace() {
-        let text = Text::of(String::from_str(alloc, text).map_err(|_| ItemFault::NoMemory)?);
-        items
-            .push(read_item(alloc, &text)?)
-            .map_err(|_| ItemFault::NoMemory)?;
+        trees.push(Tree::Words(Text::from_str(alloc, text)?))?;
     }
-    Ok(items)
+    Ok(Tree::List(trees))
 }
 
 fn described(alloc: Global, roots: &Roots) -> Result<String, AllocError> {
@@ -44,17 +44,25 @@ fn described(alloc: Global, roots: &Roots) -> Result<String, AllocError> {
     Ok(told)
 }
 
+// What items ask, and whether one of them is a role.
+fn asked_by(alloc: Global, items: &[Item]) -> Result<String, Fail> {
+    let mut told = described(alloc, &roots_of(alloc, items)?)?;
+    told.push_str(if names_a_role(items) {
+        " / a role"
+    } else {
+        " / no role"
+    })?;
+    Ok(told)
+}
+
 // A line, as its items are read.
 fn line_told(alloc: Global, line: &str) -> Result<String, Fail> {
     let (texts, _) = line.split_once(" => ").unwrap_or((line, ""));
-    let items = items_in(alloc, texts)?;
-    let roots = described(alloc, &roots_of(alloc, &items)?)?;
-    let role = if names_a_role(&items) {
-        "a role"
-    } else {
-        "no role"
+    let told = match run_list_of(alloc, &list_of(alloc, texts)?)? {
+        Some(items) => asked_by(alloc, items.as_slice())?,
+        None => String::from_str(alloc, "no run list")?,
     };
-    Ok(format!(in alloc; "{texts} => {roots} / {role}")?)
+    Ok(format!(in alloc; "{texts} => {told}")?)
 }
 
 #[test]
@@ -63,5 +71,14 @@ fn run_lists_give_their_roots(rt: HostRuntime) -> Result<(), Fail> {
         let told = line_told(rt.alloc(), line)?;
         assert_eq!(rt; told.as_str(), line);
     }
+    Ok(())
+}
+
+#[test]
+fn a_run_list_with_a_role_gives_no_recipes(rt: HostRuntime) -> Result<(), Fail> {
+    let recipes = recipes_of(rt.alloc(), &list_of(rt.alloc(), "a b")?)?;
+    assert!(rt; recipes.is_some_and(|items| items.len() == 2));
+    let roles = recipes_of(rt.alloc(), &list_of(rt.alloc(), "a role[b]")?)?;
+    assert!(rt; roles.is_none());
     Ok(())
 }

@@ -1,8 +1,8 @@
 use Rattle.std.proofs.Common.{arith, sym, ◌∙◌}
 use Rattle.doc_tree.specs.Tree.{doc_of}
-use Rattle.policy_locks.specs.Parts as spec
-use Rattle.policy_locks.proofs.PartLemmas.{made_more}
-use Rattle.policy_locks.proofs.parts.items_of.Goals as goal
+use Rattle.run_list_roots.specs.Reading as spec
+use Rattle.run_list_roots.proofs.ReadingLemmas.{made_more}
+use Rattle.run_list_roots.proofs.reading.items_of.Goals as goal
 
 pub loop-tree-preserved : goal.loop-tree-preserved
 loop-tree-preserved c =

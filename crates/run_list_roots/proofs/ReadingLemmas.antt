@@ -1,7 +1,7 @@
 -- One more of those that are made, one by one.
 use Rattle.std.proofs.Common.{◌≡◌, ◌<◌, ◌+◌, ℕ, List, [], ◌∷◌, ◌++◌, map, length, drop, get_or, Option, Some, None, option_map, option_and_then, refl, sym, ap, ◌∙◌, append_assoc}
 use Rattle.std.proofs.lemmas.List.{drop_more}
-use Rattle.policy_locks.specs.Parts.{each_of}
+use Rattle.run_list_roots.specs.Reading.{each_of}
 
 gone_on : {Y : Type 0} (made : List Y) (y : Y) (left : Option (List Y)) → option_map (λ later. made ++ later) (option_map (λ later. y ∷ later) left) ≡ option_map (λ later. (made ++ y ∷ []) ++ later) left
 gone_on made y None = refl
