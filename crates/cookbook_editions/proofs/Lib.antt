@@ -2,3 +2,4 @@ pub mod SaysLemmas
 pub mod NeedLemmas
 pub mod FreezeLemmas
 pub mod ShownLemmas
+pub mod UniverseLemmas

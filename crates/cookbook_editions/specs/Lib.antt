@@ -4,3 +4,5 @@ pub mod Shown
 pub mod Kept
 pub mod Parts
 pub mod Laws
+pub mod Rising
+pub mod Universes

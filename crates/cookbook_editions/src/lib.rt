@@ -7,9 +7,11 @@ mod segments;
 mod showing;
 #[cfg(test)]
 mod tests;
+mod universes;
 
 pub use editions::Edition;
 pub use laws::{
     frozen_are_stored, manifests_are_kept, manifests_are_stored, stored_manifests_say, version_fits,
 };
 pub use showing::shown;
+pub use universes::universe_of;

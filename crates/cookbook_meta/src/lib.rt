@@ -23,5 +23,5 @@ pub use fault::MetaFault;
 pub use identifiers::identifier;
 pub use laws::{artifacts_read_back, manifests_read_back};
 pub use manifests::{Manifest, read_manifest};
-pub use metadata::{Metadata, read_metadata};
+pub use metadata::{Metadata, read_metadata, read_needs};
 pub use parts::is_identifier;

@@ -3,6 +3,7 @@ ghost use Rattle.std.specs.Prelude.{◌≡◌, IfOk, option_map};
 ghost use Rattle.doc_tree.specs.Doc.{pairs_of};
 ghost use Rattle.doc_tree.specs.Part.{pair_at};
 ghost use Rattle.doc_tree.specs.Tree.{doc_of};
+ghost use Rattle.cookbook_meta.specs.Faults as faults;
 ghost use Rattle.cookbook_meta.specs.Metadata as spec;
 ghost use Rattle.cookbook_meta.specs.Outcomes.{Finds, Gives};
 
@@ -42,13 +43,22 @@ fn metadata_in(alloc: Global, body: &Fields) -> Result<Metadata, MetaFault>
 {
     let name = in_field(alloc, "name", name_at(alloc, body, "name"))?;
     let version = in_field(alloc, "version", version_at(body, "version"))?;
-    let dependencies = body.get("dependencies");
-    let needs = in_field(alloc, "dependencies", needs_of(alloc, dependencies))?;
+    let needs = read_needs(alloc, "dependencies", body.get("dependencies"))?;
     Ok(Metadata {
         name,
         version,
         needs,
     })
+}
+
+/// The needs that a field tells: a Dict from Names to constraints on versions, as `dependencies` of metadata and
+/// `cookbook_versions` of an environment are. There are none where there is no such field.
+///
+/// What hasn't this form is a fault of the field, exactly where something hasn't.
+pub fn read_needs(alloc: Global, field: &str, found: Option<&Tree>) -> Result<Needs, MetaFault>
+    ensures { Gives result (faults.in_field field.now (spec.needs_of (option_map (λ t. doc_of t.now) found.entry))) }
+{
+    in_field(alloc, field, needs_of(alloc, found))
 }
 
 fn needs_of(alloc: Global, found: Option<&Tree>) -> Result<Needs, Flaw>
