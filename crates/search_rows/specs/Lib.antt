@@ -1,0 +1,5 @@
+pub mod Outcomes
+pub mod Partial
+pub mod Parts
+pub mod Rows
+pub mod Laws

@@ -1,0 +1,16 @@
+//! What a search shows of the objects that it found: whole rows or parts of them, and the page.
+#![tactic(auto)]
+
+mod fault;
+mod laws;
+mod pages;
+mod partial;
+mod parts;
+mod paths;
+#[cfg(test)]
+mod tests;
+
+pub use fault::PartialFault;
+pub use laws::rows_have_the_keys;
+pub use pages::{page, shown};
+pub use partial::Partial;

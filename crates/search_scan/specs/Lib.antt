@@ -1,0 +1,5 @@
+pub mod Indexes
+pub mod Meeting
+pub mod Found
+pub mod Looks
+pub mod Laws
