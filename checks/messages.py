@@ -5,7 +5,7 @@ import sys
 PHRASES = {
     200: "OK", 201: "Created", 400: "Bad Request", 401: "Unauthorized", 403: "Forbidden",
     404: "Not Found", 405: "Method Not Allowed", 406: "Not Acceptable", 409: "Conflict",
-    413: "Payload Too Large", 500: "Internal Server Error", 501: "Not Implemented",
+    412: "Precondition Failed", 413: "Payload Too Large", 500: "Internal Server Error", 501: "Not Implemented",
 }
 OPERATOR = "X-Ops-UserId: pivotal\r\n"
 

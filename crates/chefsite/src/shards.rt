@@ -74,7 +74,7 @@ impl Shard {
         ensures stays { ¬ (IsGood result.status) → (name : List ℕ) → states_in self.new name ≡ states_in self.old name }
     {
         match self.organisations.get_mut(org) {
-            Some(state) => org_machine::serve(alloc, state, &mut self.files, request, steps),
+            Some(state) => org_machine::serve(alloc, state, &mut self.files, request, None, steps),
             None => self.serve_absent(alloc, org, request, steps),
         }
     }
@@ -156,7 +156,7 @@ impl Shard {
             states_in self.new name ≡ state_then name request.now result (states_in self.old name) }
     {
         let mut state = state;
-        let reply = org_machine::serve(alloc, &mut state, &mut self.files, request, steps);
+        let reply = org_machine::serve(alloc, &mut state, &mut self.files, request, None, steps);
         keep_if_there(&mut self.organisations, key, state);
         reply
     }

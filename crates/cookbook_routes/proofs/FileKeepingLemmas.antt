@@ -1,9 +1,11 @@
 -- What is done to cookbooks, sandboxes and files keeps the conditions of files: what a version names is there.
-use Rattle.std.proofs.Common.{◌≡◌, Bool, true, false, not, ◌&&◌, cond, List, ℕ, [], ◌∷◌, length, Option, Some, None, refl, sym, ap, ◌∙◌}
+use Rattle.std.proofs.Common.{◌≡◌, Bool, true, false, not, ◌&&◌, cond, List, ℕ, [], ◌∷◌, length, Option, Some, None, refl, sym, ap, ◌∙◌, Result, Ok, Err}
 use Rattle.access_lists.proofs.TextSetLemmas.{lists-in_order}
 use Rattle.access_lists.specs.TextSets.{in_order}
 use Rattle.access_lists.specs.declared.starting.Container.TheVariants as container
 use Rattle.cookbook_editions.proofs.FreezeLemmas.{parts_frozen}
+use Rattle.cookbook_editions.specs.Universes.{universe_of}
+use Rattle.dep_solver.specs.declared.roots.Pin.{Pin}
 use Rattle.cookbook_editions.specs.Editions.{is_frozen, names_sum, needs_in, sums_in}
 use Rattle.cookbook_editions.specs.Frozen.{freeze}
 use Rattle.doc_tree.specs.Doc.{Doc, null, boolean, whole, words, list, dict}
@@ -20,7 +22,7 @@ use Rattle.org_core.specs.FileMoves.{takes_shelf_room, versions_put_in}
 use Rattle.org_core.specs.FullStates.{MeetsFileConditions, is_committed}
 use Rattle.org_core.specs.Keeping.{KeepsFileConditions, LeadsToFileConditions, full_of}
 use Rattle.org_core.specs.Refusals.{first_some, refuses}
-use Rattle.org_core.specs.States.{cookbooks_of}
+use Rattle.org_core.specs.States.{cookbooks_of, object_in}
 use Rattle.org_core.specs.declared.cookbook_moves.CookbookMove.TheVariants as cookbooks
 use Rattle.org_core.specs.declared.file_moves.FileMove.TheVariants as files
 use Rattle.org_core.specs.declared.moves.Move.{Move}
@@ -31,6 +33,7 @@ use Rattle.cookbook_routes.specs.declared.operations.CookbookOperation.{Cookbook
 use Rattle.cookbook_routes.specs.declared.operations.CookbookOperation.TheVariants as operation
 use Rattle.cookbook_routes.specs.CookbookRules.{cookbook_does, cookbook_refusal, cookbook_rules}
 use Rattle.cookbook_routes.specs.Sandboxes.{begun_if, id_of_next, missing_told}
+use Rattle.cookbook_routes.specs.Solving.{chosen, rules_of, solved_as}
 use Rattle.cookbook_routes.specs.Versions.{is_frozen_found, keeps_others, missing_sums, stored_at, stored_over}
 
 -- ---- a version is put where no file is missing
@@ -82,6 +85,10 @@ unfolding takes_shelf_room
 begun_keeps_files context sums None meets = meets
 begun_keeps_files context sums (Some id) meets = moves_keep_files context.org (OnFiles (files.Begin sums) ∷ []) (full_of context) refl meets
 
+solved_keeps_files : (context : Context) (chosen : Result (List Pin) Refusal) → MeetsFileConditions (full_of context) → LeadsToFileConditions context (solved_as context chosen)
+solved_keeps_files context (Ok pins) meets = meets
+solved_keeps_files context (Err refusal) meets = meets
+
 does_keep_files : (context : Context) (asked : CookbookOperation) → MeetsFileConditions (full_of context) → cookbook_refusal context asked ≡ None → LeadsToFileConditions context (cookbook_does context asked)
 unfolding takes_shelf_room
 does_keep_files context (operation.BeginSandbox sums) meets free = begun_keeps_files context sums (id_of_next context.org context.files) meets
@@ -102,6 +109,9 @@ does_keep_files context (operation.PutVersion name version manifest forced) meet
 does_keep_files context (operation.RemoveVersion name version) meets free =
     put_keeps_files context.org (OnCookbooks (cookbooks.TakeVersion name version)) (cond (keeps_others (cookbooks_of context.state) name version) [] (TakeList (key kinds.Cookbook name) ∷ [])) (full_of context)
     (list_puts_none (keeps_others (cookbooks_of context.state) name version) (TakeList (key kinds.Cookbook name)) refl) tt meets
+does_keep_files context operation.ShowUniverse meets free = meets
+does_keep_files context (operation.SolveVersions environment roots) meets free =
+    solved_keeps_files context (chosen (universe_of (cookbooks_of context.state)) (rules_of (object_in context.state kinds.Environment environment)) roots) meets
 
 pub cookbooks_keep_files : KeepsFileConditions cookbook_rules
 cookbooks_keep_files context route request asked meets is free = does_keep_files context asked meets free

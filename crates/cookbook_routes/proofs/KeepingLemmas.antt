@@ -1,9 +1,11 @@
 -- What is done to cookbooks, sandboxes and files keeps the conditions of the organisation's state.
-use Rattle.std.proofs.Common.{◌≡◌, Bool, true, false, not, ◌&&◌, cond, List, ℕ, [], ◌∷◌, Option, Some, None, is_some, refl}
+use Rattle.std.proofs.Common.{◌≡◌, Bool, true, false, not, ◌&&◌, cond, List, ℕ, [], ◌∷◌, Option, Some, None, is_some, refl, Result, Ok, Err}
 use Rattle.access_lists.specs.declared.acl.Acl.{Acl}
 use Rattle.access_lists.specs.declared.starting.Container.TheVariants as container
 use Rattle.cookbook_editions.proofs.FreezeLemmas.{frozen_stays}
 use Rattle.cookbook_editions.specs.Frozen.{freeze}
+use Rattle.cookbook_editions.specs.Universes.{universe_of}
+use Rattle.dep_solver.specs.declared.roots.Pin.{Pin}
 use Rattle.dep_solver.proofs.VersionLemmas.{versions_total}
 use Rattle.doc_tree.specs.Doc.{Doc}
 use Rattle.doc_tree.specs.Name.{is_name}
@@ -28,12 +30,14 @@ use Rattle.org_core.specs.Creating.{created_list}
 use Rattle.org_core.specs.Keeping.{KeepsConditions, LeadsToConditions, Someone}
 use Rattle.org_core.specs.Moves.{after_moves}
 use Rattle.org_core.specs.Needs.{is_known}
-use Rattle.org_core.specs.States.{Organisation, State}
+use Rattle.org_core.specs.States.{Organisation, State, cookbooks_of, object_in}
+use Rattle.org_core.specs.declared.refusals.Refusal.{Refusal}
 use Rattle.cookbook_routes.proofs.ReadLemmas.{WasRead, was_read}
 use Rattle.cookbook_routes.specs.declared.operations.CookbookOperation.{CookbookOperation}
 use Rattle.cookbook_routes.specs.declared.operations.CookbookOperation.TheVariants as operation
 use Rattle.cookbook_routes.specs.CookbookRules.{cookbook_rules, cookbook_does, cookbook_lacks}
 use Rattle.cookbook_routes.specs.Sandboxes.{id_of_next, begun_if}
+use Rattle.cookbook_routes.specs.Solving.{chosen, rules_of, solved_as}
 use Rattle.cookbook_routes.specs.Versions.{is_frozen_found, keeps_others, put_moves, removal, stored_at, stored_over}
 
 -- ---- files
@@ -108,6 +112,10 @@ not_lacking true true is = refl
 not_lacking true false is = cc
 not_lacking false there is = cc
 
+solved_keeps : (context : Context) (chosen : Result (List Pin) Refusal) → MeetsConditions context.state → LeadsToConditions context.state (solved_as context chosen)
+solved_keeps context (Ok pins) meets = meets
+solved_keeps context (Err refusal) meets = meets
+
 does_keep : (context : Context) (asked : CookbookOperation) → MeetsConditions context.state → is_known context ≡ true → WasRead asked → cookbook_lacks context asked ≡ false
     → LeadsToConditions context.state (cookbook_does context asked)
 does_keep context (operation.BeginSandbox sums) meets known read found = begun_keeps context sums (id_of_next context.org context.files) meets
@@ -121,6 +129,9 @@ does_keep context (operation.PutVersion name version manifest forced) meets know
     put_keeps context context.state name version (stored_over (stored_at context name version) manifest) meets known (over_is (stored_at context name version) name version manifest read)
 does_keep context (operation.RemoveVersion name version) meets known read found =
     remove_keeps context context.state name version meets (not_lacking (is_name name) (is_some (stored_at context name version)) found)
+does_keep context operation.ShowUniverse meets known read found = meets
+does_keep context (operation.SolveVersions environment roots) meets known read found =
+    solved_keeps context (chosen (universe_of (cookbooks_of context.state)) (rules_of (object_in context.state kinds.Environment environment)) roots) meets
 
 pub cookbooks_keep : KeepsConditions Someone cookbook_rules
 cookbooks_keep context route request asked meets known is found free = does_keep context asked meets known (was_read route request.verb request.asked request.body asked is) found

@@ -7,3 +7,5 @@ pub mod ShelfLemmas
 pub mod MissingLemmas
 pub mod BackwardsLemmas
 pub mod ListingLemmas
+pub mod UniverseLemmas
+pub mod SolvingLemmas

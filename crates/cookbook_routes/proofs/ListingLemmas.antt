@@ -1,15 +1,10 @@
 -- The shelves of a listing, by their names.
-use Rattle.std.proofs.Common.{◌≡◌, ◌&&◌, T, ℕ, Bool, true, false, List, [], ◌∷◌, ◌++◌, map, refl, sym, ap, subst, ◌∙◌}
-use Rattle.std.specs.declared.cmp.Ordering.{Ordering}
-use Rattle.std.specs.declared.cmp.Ordering.TheVariants.{Less, Equal, Greater}
-use Rattle.std.specs.Ordering.{is_lt}
+use Rattle.std.proofs.Common.{◌≡◌, ℕ, List, [], ◌∷◌, ◌++◌, map, sym, ap, subst, ◌∙◌}
 use Rattle.std.specs.FinMap as finite
-use Rattle.std.specs.FinMap.Entries.{below_all, is_sorted}
-use Rattle.std.specs.List.{AllByRecursion}
-use Rattle.std.specs.List.Sorted.{IsStrictlySortedBy}
 use Rattle.std.specs.Map.{keys_of}
 use Rattle.std.proofs.lemmas.List.{append-nil, map-append}
 use Rattle.std.proofs.lemmas.Simd.{map-map}
+use Rattle.cookbook_editions.specs.Rising.{keys_rise}
 use Rattle.doc_tree.specs.Doc.{Doc, dict, pairs_of}
 use Rattle.doc_tree.specs.Valid.{InOrder}
 use Rattle.org_core.proofs.ListingLemmas.{InOrder-upto}
@@ -21,37 +16,12 @@ use Rattle.version_rules.specs.declared.versions.Version.{Version}
 use Rattle.cookbook_routes.specs.declared.operations.Count.{Count}
 use Rattle.cookbook_routes.specs.Listings.{cookbook_doc, listing_doc}
 
--- ---- the keys of a map are in order
-
-one : (a b : Bool) → T (a && b) → T a
-one true b h = tt
-one false b h = absurd h
-
-other : (a b : Bool) → T (a && b) → T b
-other true b h = h
-other false b h = absurd h
-
-less : (r : Ordering) → T (is_lt r) → r ≡ Less
-less Less h = refl
-less Equal h = absurd h
-less Greater h = absurd h
-
-module _ {X : Type 0} where
-  below-all : (k : List ℕ) (es : List (List ℕ × X)) → T (below_all text_cmp k es) → AllByRecursion (λ name. text_cmp k name ≡ Less) (keys_of es)
-  below-all k [] below = tt
-  below-all k (e ∷ es) below = (less _ (one _ _ below), below-all k es (other _ _ below))
-
-  rise : (es : List (List ℕ × X)) → T (is_sorted text_cmp es) → InOrder (keys_of es)
-  unfolding IsStrictlySortedBy
-  rise [] sorted = tt
-  rise (e ∷ es) sorted = (below-all e.0 es (one _ _ sorted), rise es (other _ _ sorted))
-
 -- ---- shelves as they are listed
 
-abbrev Shelf : Type 0
+abbrev pub Shelf : Type 0
 Shelf = List ℕ × Sorted Version Doc
 
-abbrev seen_shelf : Shelf → List ℕ × finite.FinMap version_cmp Doc
+abbrev pub seen_shelf : Shelf → List ℕ × finite.FinMap version_cmp Doc
 seen_shelf e = (e.0, map_of version_cmp e.1)
 
 abbrev shown : List ℕ → Count → Shelf → List ℕ × Doc
@@ -59,7 +29,7 @@ shown org count e = (e.0, cookbook_doc org count e.0 (map_of version_cmp e.1))
 
 module _ (org : List ℕ) (count : Count) (shelves : List Shelf) (cookbooks : Cookbooks) (same : map seen_shelf shelves ≡ finite.entries cookbooks) where
   names_in-order : InOrder (map (λ (e : Shelf). e.0) shelves)
-  names_in-order = subst InOrder (ap keys_of (sym same) ∙ map-map (λ (e : List ℕ × finite.FinMap version_cmp Doc). e.0) seen_shelf shelves) (rise (finite.entries cookbooks) (finite.entries_sorted cookbooks))
+  names_in-order = subst InOrder (ap keys_of (sym same) ∙ map-map (λ (e : List ℕ × finite.FinMap version_cmp Doc). e.0) seen_shelf shelves) (keys_rise text_cmp cookbooks)
 
   -- the next name is above those of the fields so far
   pub next_shelf : (fields : List (List ℕ × Doc)) (left : List Shelf) (x : Shelf) (rest : List Shelf) (copied : List ℕ)

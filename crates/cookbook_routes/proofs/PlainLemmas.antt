@@ -1,6 +1,15 @@
 -- These routes refuse for want of a permission by their needs alone.
-use Rattle.std.proofs.Common.{Bool, true, false, not, ◌&&◌, List, [], ◌∷◌, ℕ, bytes_eq, codes, IfSome, Option, Some, None, Result, Ok, Err}
+use Rattle.std.proofs.Common.{Bool, true, false, not, ◌&&◌, List, [], ◌∷◌, ℕ, bytes_eq, codes, IfSome, Option, Some, None, option_and_then, Result, Ok, Err}
+use Rattle.cookbook_editions.specs.Universes.{universe_of}
+use Rattle.dep_solver.specs.Chosen.{best_of}
+use Rattle.dep_solver.specs.declared.roots.Pin.{Pin}
+use Rattle.dep_solver.specs.declared.roots.Roots.{Roots}
+use Rattle.dep_solver.specs.declared.rules.EnvRules.{EnvRules}
+use Rattle.dep_solver.specs.declared.universe.Universe.{Universe as Versions}
 use Rattle.doc_tree.specs.Doc.{Doc}
+use Rattle.doc_tree.specs.declared.kind.Kind.TheVariants as kinds
+use Rattle.run_list.specs.Stored.{Stored}
+use Rattle.run_list_roots.specs.Reading.{recipes_of}
 use Rattle.doc_tree.specs.Name.{is_name}
 use Rattle.doc_tree.specs.Part.{part_at}
 use Rattle.cookbook_editions.specs.Kept.{stored_from}
@@ -23,14 +32,16 @@ use Rattle.org_core.specs.Parameters.{asked_for}
 use Rattle.org_core.specs.Refusals.{first_some, refuses}
 use Rattle.org_core.specs.declared.requests.Parameter.{Parameter}
 use Rattle.org_core.specs.Contexts.{Context}
+use Rattle.org_core.specs.States.{cookbooks_of, object_in}
 use Rattle.org_core.specs.Plain.{IsPlain, RefusesPlainly, NeverForbids}
 use Rattle.cookbook_routes.specs.declared.operations.CookbookOperation.{CookbookOperation}
 use Rattle.cookbook_routes.specs.declared.operations.CookbookOperation.TheVariants as operation
 use Rattle.cookbook_routes.specs.declared.operations.Count.{Count}
 use Rattle.cookbook_routes.specs.declared.operations.Wanted.{Wanted}
-use Rattle.cookbook_routes.specs.CookbookRules.{beginning, committing, uploading, put_file, showing_file, listing, put_version, putting, removing_version, showing_version, cookbook_asked, cookbook_refusal, cookbook_does, cookbook_rules}
+use Rattle.cookbook_routes.specs.CookbookRules.{beginning, committing, uploading, put_file, showing_file, listing, put_version, putting, removing_version, showing_version, solving, solving_for, cookbook_asked, cookbook_refusal, cookbook_does, cookbook_rules}
 use Rattle.cookbook_routes.specs.Files.{file_in}
 use Rattle.cookbook_routes.specs.Listings.{count_given, count_or_bad}
+use Rattle.cookbook_routes.specs.Solving.{best_or_none, or_bad_run_list, roots_asked, rules_of, solved_as}
 use Rattle.cookbook_routes.specs.Versions.{is_forced, is_frozen_found, manifest_said, missing_sums, or_bad_manifest, stored_at, version_in, wanted_in}
 use Rattle.cookbook_routes.specs.Sandboxes.{sums_at, or_bad_checksums, sums_in, is_true_part, completion_refusal, missing_told, id_of_next, begun_if}
 
@@ -108,6 +119,22 @@ put_version_plain true name (Some version) parameters body =
 put_version_plain true name None parameters body = absent_plain (document_in body) (document_plain body)
 put_version_plain false name version parameters body = absent_plain (document_in body) (document_plain body)
 
+or_bad_run_list_plain : (items : Option (List Stored)) → RefusesPlainly (or_bad_run_list items)
+or_bad_run_list_plain None = tt
+or_bad_run_list_plain (Some items) = tt
+
+roots_plain : (document : Result Doc Refusal) → RefusesPlainly document → RefusesPlainly (roots_asked document)
+roots_plain (Ok doc) plain = or_bad_run_list_plain (option_and_then recipes_of (part_at (codes "run_list") doc))
+roots_plain (Err refusal) plain = plain
+
+solving_plain : (environment : List ℕ) (roots : Result Roots Refusal) → RefusesPlainly roots → RefusesPlainly (solving environment roots)
+solving_plain environment (Ok roots) plain = tt
+solving_plain environment (Err refusal) plain = plain
+
+solving_for_plain : (b : Bool) (environment : List ℕ) (document : Result Doc Refusal) → RefusesPlainly document → RefusesPlainly (solving_for b environment document)
+solving_for_plain true environment document plain = solving_plain environment (roots_asked document) (roots_plain document plain)
+solving_for_plain false environment document plain = absent_plain document plain
+
 asked_plain : (route : CookbookRoute) (verb : Verb) (parameters : List Parameter) (body : Body) → RefusesPlainly (cookbook_asked route verb parameters body)
 asked_plain Sandboxes Get parameters body = tt
 asked_plain Sandboxes Post parameters body = beginning_plain (sums_in (document_in body)) (sums_in_plain (document_in body) (document_plain body))
@@ -139,10 +166,18 @@ asked_plain (Version name version) Post parameters body = tt
 asked_plain (Version name version) Put parameters body = put_version_plain (is_name name) name (version_in version) parameters body
 asked_plain (Version name version) Delete parameters body = removing_plain name (version_in version)
 asked_plain (Version name version) Other parameters body = tt
-asked_plain Universe verb parameters body = tt
+asked_plain Universe Get parameters body = tt
+asked_plain Universe Post parameters body = tt
+asked_plain Universe Put parameters body = tt
+asked_plain Universe Delete parameters body = tt
+asked_plain Universe Other parameters body = tt
 asked_plain Artifacts verb parameters body = tt
 asked_plain (Artifact name id) verb parameters body = tt
-asked_plain (SolvedVersions environment) verb parameters body = tt
+asked_plain (SolvedVersions environment) Get parameters body = tt
+asked_plain (SolvedVersions environment) Post parameters body = solving_for_plain (is_name environment) environment (document_in body) (document_plain body)
+asked_plain (SolvedVersions environment) Put parameters body = tt
+asked_plain (SolvedVersions environment) Delete parameters body = tt
+asked_plain (SolvedVersions environment) Other parameters body = tt
 
 missing_plain : (sums : Sums) → IfSome (missing_told sums) IsPlain
 missing_plain [] = tt
@@ -164,10 +199,16 @@ refusal_plain context (operation.ShowVersion name wanted) = tt
 refusal_plain context (operation.PutVersion name version manifest forced) =
     put_plain_if (is_frozen_found (stored_at context name version) && not forced) (missing_told (missing_sums context.files manifest)) (missing_plain (missing_sums context.files manifest))
 refusal_plain context (operation.RemoveVersion name version) = tt
+refusal_plain context operation.ShowUniverse = tt
+refusal_plain context (operation.SolveVersions environment roots) = tt
 
 begun_plain : (context : Context) (sums : Sums) (id : Option (List ℕ)) → RefusesPlainly (begun_if context sums id).answer
 begun_plain context sums None = tt
 begun_plain context sums (Some id) = tt
+
+best_plain : (universe : Versions) (rules : EnvRules) (roots : Roots) (best : Option (List Pin)) (context : Context) → RefusesPlainly (solved_as context (best_or_none universe rules roots best)).answer
+best_plain universe rules roots (Some pins) context = tt
+best_plain universe rules roots None context = tt
 
 does_plain : (context : Context) (asked : CookbookOperation) → RefusesPlainly (cookbook_does context asked).answer
 does_plain context (operation.BeginSandbox sums) = begun_plain context sums (id_of_next context.org context.files)
@@ -179,6 +220,11 @@ does_plain context (operation.ListVersions name) = tt
 does_plain context (operation.ShowVersion name wanted) = tt
 does_plain context (operation.PutVersion name version manifest forced) = tt
 does_plain context (operation.RemoveVersion name version) = tt
+does_plain context operation.ShowUniverse = tt
+does_plain context (operation.SolveVersions environment roots) =
+    let universe = universe_of (cookbooks_of context.state) in
+    let rules = rules_of (object_in context.state kinds.Environment environment) in
+    best_plain universe rules roots (best_of universe rules roots) context
 
 pub cookbooks_never_forbid : NeverForbids cookbook_rules
 cookbooks_never_forbid = record {

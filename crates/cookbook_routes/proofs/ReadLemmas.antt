@@ -10,6 +10,7 @@ use Rattle.cookbook_meta.specs.Faults.{then_do}
 use Rattle.cookbook_meta.specs.Manifests.{manifest_from}
 use Rattle.cookbook_meta.specs.declared.fault.MetaFault.{MetaFault}
 use Rattle.cookbook_meta.specs.declared.manifests.Manifest.{Manifest}
+use Rattle.dep_solver.specs.declared.roots.Roots.{Roots}
 use Rattle.doc_tree.specs.Doc.{Doc}
 use Rattle.doc_tree.specs.Name.{is_name}
 use Rattle.doc_tree.specs.Tree.{doc_of}
@@ -34,10 +35,11 @@ use Rattle.cookbook_routes.specs.declared.operations.CookbookOperation.{Cookbook
 use Rattle.cookbook_routes.specs.declared.operations.CookbookOperation.TheVariants as operation
 use Rattle.cookbook_routes.specs.declared.operations.Count.{Count}
 use Rattle.cookbook_routes.specs.declared.operations.Wanted.{Wanted}
-use Rattle.cookbook_routes.specs.CookbookRules.{beginning, committing, cookbook_asked, listing, put_file, put_version, putting, removing_version, showing_file, showing_version, uploading}
+use Rattle.cookbook_routes.specs.CookbookRules.{beginning, committing, cookbook_asked, listing, put_file, put_version, putting, removing_version, showing_file, showing_version, solving, solving_for, uploading}
 use Rattle.cookbook_routes.specs.Files.{file_in}
 use Rattle.cookbook_routes.specs.Listings.{count_asked}
 use Rattle.cookbook_routes.specs.Sandboxes.{completion_refusal, sums_in}
+use Rattle.cookbook_routes.specs.Solving.{roots_asked}
 use Rattle.cookbook_routes.specs.Versions.{is_forced, manifest_said, or_bad_manifest, version_in, version_read, wanted_in}
 
 -- ---- versions that are read fit
@@ -99,6 +101,8 @@ WasRead (operation.ListVersions name) = Unit {0}
 WasRead (operation.ShowVersion name wanted) = Unit {0}
 WasRead (operation.PutVersion name version manifest forced) = IsVersionOf name version manifest
 WasRead (operation.RemoveVersion name version) = Unit {0}
+WasRead operation.ShowUniverse = Unit {0}
+WasRead (operation.SolveVersions environment roots) = Unit {0}
 
 -- and so is what is asked, where something is
 abbrev AskedRead : Result CookbookOperation Refusal → Type 0
@@ -158,6 +162,14 @@ put_read true name (Some version) parameters body named fits =
 put_read true name None parameters body named fits = tt
 put_read false name version parameters body named fits = tt
 
+solving_read : (environment : List ℕ) (roots : Result Roots Refusal) → AskedRead (solving environment roots)
+solving_read environment (Ok roots) = tt
+solving_read environment (Err refusal) = tt
+
+solving_for_read : (b : Bool) (environment : List ℕ) (said : Result Doc Refusal) → AskedRead (solving_for b environment said)
+solving_for_read true environment said = solving_read environment (roots_asked said)
+solving_for_read false environment said = tt
+
 asked_read : (route : CookbookRoute) (verb : Verb) (parameters : List Parameter) (body : Body) → AskedRead (cookbook_asked route verb parameters body)
 asked_read Sandboxes Get parameters body = tt
 asked_read Sandboxes Post parameters body = beginning_read (sums_in (document_in body))
@@ -190,10 +202,18 @@ asked_read (Version name version) Put parameters body =
     put_read (is_name name) name (version_in version) parameters body refl (λ v is. fits_read version v (fits_in (reads_version version) v is))
 asked_read (Version name version) Delete parameters body = removing_read name (version_in version)
 asked_read (Version name version) Other parameters body = tt
-asked_read Universe verb parameters body = tt
+asked_read Universe Get parameters body = tt
+asked_read Universe Post parameters body = tt
+asked_read Universe Put parameters body = tt
+asked_read Universe Delete parameters body = tt
+asked_read Universe Other parameters body = tt
 asked_read Artifacts verb parameters body = tt
 asked_read (Artifact name id) verb parameters body = tt
-asked_read (SolvedVersions environment) verb parameters body = tt
+asked_read (SolvedVersions environment) Get parameters body = tt
+asked_read (SolvedVersions environment) Post parameters body = solving_for_read (is_name environment) environment (document_in body)
+asked_read (SolvedVersions environment) Put parameters body = tt
+asked_read (SolvedVersions environment) Delete parameters body = tt
+asked_read (SolvedVersions environment) Other parameters body = tt
 
 -- an operation that is asked was read
 pub was_read : (route : CookbookRoute) (verb : Verb) (parameters : List Parameter) (body : Body) (asked : CookbookOperation) → cookbook_asked route verb parameters body ≡ Ok asked → WasRead asked

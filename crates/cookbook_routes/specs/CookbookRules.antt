@@ -2,6 +2,7 @@
 use Rattle.std.specs.Prelude.{ℕ, Bool, true, false, not, ◌&&◌, List, [], ◌∷◌, Option, Some, None, is_none, is_some, codes, Result, Ok, Err}
 use Rattle.std.specs.FinMap as finite
 use Rattle.access_lists.specs.declared.perm.Perm.TheVariants as permission
+use Rattle.dep_solver.specs.declared.roots.Roots.{Roots}
 use Rattle.doc_tree.specs.Doc.{Doc}
 use Rattle.doc_tree.specs.Name.{is_name}
 use Rattle.doc_tree.specs.declared.kind.Kind.TheVariants as kinds
@@ -18,7 +19,7 @@ use Rattle.org_core.specs.Contexts.{Context}
 use Rattle.org_core.specs.FullStates.{is_committed}
 use Rattle.org_core.specs.Outcomes.{Decided}
 use Rattle.org_core.specs.Rules.{Rules}
-use Rattle.org_core.specs.States.{cookbooks_of}
+use Rattle.org_core.specs.States.{cookbooks_of, has_object}
 use Rattle.org_core.specs.declared.needs.Need.{Need}
 use Rattle.org_core.specs.declared.needs.Need.TheVariants.{Listed}
 use Rattle.org_core.specs.declared.refusals.Refusal.{Refusal}
@@ -34,6 +35,8 @@ use Rattle.cookbook_routes.specs.declared.operations.Wanted.{Wanted}
 use Rattle.cookbook_routes.specs.Files.{file_in, digest_refusal, file_uploaded, file_shown}
 use Rattle.cookbook_routes.specs.Listings.{count_asked, cookbooks_listed, cookbook_listed}
 use Rattle.cookbook_routes.specs.Sandboxes.{sums_in, completion_refusal, missing_refusal, sandbox_begun, sandbox_committed}
+use Rattle.cookbook_routes.specs.Solving.{roots_asked, versions_solved}
+use Rattle.cookbook_routes.specs.Universes.{universe_shown}
 use Rattle.cookbook_routes.specs.Versions.{is_forced, manifest_said, put_need, put_refusal, stored_at, version_in, version_put, version_removed, version_shown, wanted_in, wanted_of}
 
 -- to begin a sandbox of the checksums that were read
@@ -137,6 +140,32 @@ version_asked name version Put parameters body = put_version (is_name name) name
 version_asked name version Delete parameters body = removing_version name (version_in version)
 version_asked name version Other parameters body = Err NotAllowed
 
+-- what is asked of the universe
+abbrev pub universe_asked : Verb → Result CookbookOperation Refusal
+universe_asked Get = Ok operation.ShowUniverse
+universe_asked Post = Err NotAllowed
+universe_asked Put = Err NotAllowed
+universe_asked Delete = Err NotAllowed
+universe_asked Other = Err NotAllowed
+
+-- to choose the versions that were asked for
+abbrev pub solving : List ℕ → Result Roots Refusal → Result CookbookOperation Refusal
+solving environment (Ok roots) = Ok (operation.SolveVersions environment roots)
+solving environment (Err refusal) = Err refusal
+
+-- a POST of a run list. Where the path has a name that hasn't its form, no environment has it
+abbrev pub solving_for : Bool → List ℕ → Result Doc Refusal → Result CookbookOperation Refusal
+solving_for true environment said = solving environment (roots_asked said)
+solving_for false environment said = Err (absent said)
+
+-- what is asked of the versions for a run list
+abbrev pub solving_asked : List ℕ → Verb → Body → Result CookbookOperation Refusal
+solving_asked environment Get body = Err NotAllowed
+solving_asked environment Post body = solving_for (is_name environment) environment (document_in body)
+solving_asked environment Put body = Err NotAllowed
+solving_asked environment Delete body = Err NotAllowed
+solving_asked environment Other body = Err NotAllowed
+
 -- what is asked
 abbrev pub cookbook_asked : CookbookRoute → Verb → List Parameter → Body → Result CookbookOperation Refusal
 cookbook_asked Sandboxes verb parameters body = sandboxes_asked verb body
@@ -145,10 +174,14 @@ cookbook_asked (File sum) verb parameters body = file_asked sum verb body
 cookbook_asked Cookbooks verb parameters body = cookbooks_asked verb parameters
 cookbook_asked (Cookbook name) verb parameters body = cookbook_by_name name verb
 cookbook_asked (Version name version) verb parameters body = version_asked name version verb parameters body
-cookbook_asked Universe verb parameters body = Err NotImplemented
+cookbook_asked Universe verb parameters body = universe_asked verb
 cookbook_asked Artifacts verb parameters body = Err NotImplemented
 cookbook_asked (Artifact name id) verb parameters body = Err NotImplemented
-cookbook_asked (SolvedVersions environment) verb parameters body = Err NotImplemented
+cookbook_asked (SolvedVersions environment) verb parameters body = solving_asked environment verb body
+
+-- no environment has the name
+abbrev pub lacks_environment : Context → List ℕ → Bool
+lacks_environment context name = not (has_object context.state kinds.Environment name)
 
 -- no cookbook has the name
 abbrev pub lacks_cookbook : Context → List ℕ → Bool
@@ -174,9 +207,11 @@ cookbook_lacks context (operation.ListVersions name) = lacks_cookbook context na
 cookbook_lacks context (operation.ShowVersion name wanted) = lacks_wanted context name wanted
 cookbook_lacks context (operation.PutVersion name version manifest forced) = false
 cookbook_lacks context (operation.RemoveVersion name version) = lacks_version context name version
+cookbook_lacks context operation.ShowUniverse = false
+cookbook_lacks context (operation.SolveVersions environment roots) = lacks_environment context environment
 
--- the permission: in the list of the container `sandboxes`, to read a file and to list cookbooks in that of `cookbooks`, and
--- else in the cookbook's own
+-- the permission: in the list of the container `sandboxes`; to read a file, to list cookbooks and to choose among their
+-- versions in that of `cookbooks`; and else in the cookbook's own
 abbrev pub cookbook_need : Context → CookbookOperation → Need
 cookbook_need context (operation.BeginSandbox sums) = Listed permission.Create (key kinds.Container (codes "sandboxes"))
 cookbook_need context (operation.CommitSandbox id) = Listed permission.Update (key kinds.Container (codes "sandboxes"))
@@ -187,12 +222,20 @@ cookbook_need context (operation.ListVersions name) = Listed permission.Read (ke
 cookbook_need context (operation.ShowVersion name wanted) = Listed permission.Read (key kinds.Cookbook name)
 cookbook_need context (operation.PutVersion name version manifest forced) = put_need context name
 cookbook_need context (operation.RemoveVersion name version) = Listed permission.Delete (key kinds.Cookbook name)
+cookbook_need context operation.ShowUniverse = Listed permission.Read (key kinds.Container (codes "cookbooks"))
+cookbook_need context (operation.SolveVersions environment roots) = Listed permission.Read (key kinds.Container (codes "cookbooks"))
 
--- that permission alone
+-- to read an environment
+abbrev pub environment_need : List ℕ → Need
+environment_need name = Listed permission.Read (key kinds.Environment name)
+
+-- that permission, and before it, where versions are chosen, that to read the environment
 abbrev pub cookbook_needs : Context → CookbookOperation → List Need
+cookbook_needs context (operation.SolveVersions environment roots) = environment_need environment ∷ cookbook_need context (operation.SolveVersions environment roots) ∷ []
 cookbook_needs context operation = cookbook_need context operation ∷ []
 
--- the refusal that stands. That the count is at its end is found where a sandbox begins
+-- the refusal that stands. That the count is at its end is found where a sandbox begins, and that no set of versions
+-- meets a run list where they are chosen
 abbrev pub cookbook_refusal : Context → CookbookOperation → Option Refusal
 cookbook_refusal context (operation.BeginSandbox sums) = None
 cookbook_refusal context (operation.CommitSandbox id) = missing_refusal context.files id
@@ -203,6 +246,8 @@ cookbook_refusal context (operation.ListVersions name) = None
 cookbook_refusal context (operation.ShowVersion name wanted) = None
 cookbook_refusal context (operation.PutVersion name version manifest forced) = put_refusal context name version manifest forced
 cookbook_refusal context (operation.RemoveVersion name version) = None
+cookbook_refusal context operation.ShowUniverse = None
+cookbook_refusal context (operation.SolveVersions environment roots) = None
 
 -- what is done
 abbrev pub cookbook_does : Context → CookbookOperation → Decided
@@ -215,6 +260,8 @@ cookbook_does context (operation.ListVersions name) = cookbook_listed context na
 cookbook_does context (operation.ShowVersion name wanted) = version_shown context name wanted
 cookbook_does context (operation.PutVersion name version manifest forced) = version_put context name version manifest
 cookbook_does context (operation.RemoveVersion name version) = version_removed context name version
+cookbook_does context operation.ShowUniverse = universe_shown context
+cookbook_does context (operation.SolveVersions environment roots) = versions_solved context environment roots
 
 -- the rules of these routes
 abbrev pub cookbook_rules : Rules CookbookRoute CookbookOperation

@@ -5,7 +5,9 @@ ghost use Rattle.org_core.specs.Contexts.{seen};
 ghost use Rattle.cookbook_routes.specs.CookbookRules as spec;
 
 use crate::operations::CookbookOperation;
-use crate::{file_routes, listing_routes, sandbox_routes, version_routes};
+use crate::{
+    file_routes, listing_routes, sandbox_routes, solving_routes, universe_routes, version_routes,
+};
 use access_lists::Perm;
 use doc_tree::{Kind, NoMemory, Steps};
 use org_core::{
@@ -50,10 +52,13 @@ impl Group for Cookbooks {
                 let parameters = request.asked.as_slice();
                 version_routes::version_asked(alloc, name, version, verb, parameters, body)
             }
-            CookbookRoute::Universe
-            | CookbookRoute::Artifacts
-            | CookbookRoute::Artifact(_, _)
-            | CookbookRoute::SolvedVersions(_) => Err(Stop::Refused(Refusal::NotImplemented)),
+            CookbookRoute::Universe => universe_routes::universe_asked(verb),
+            CookbookRoute::SolvedVersions(environment) => {
+                solving_routes::solving_asked(alloc, environment, verb, body)
+            }
+            CookbookRoute::Artifacts | CookbookRoute::Artifact(_, _) => {
+                Err(Stop::Refused(Refusal::NotImplemented))
+            }
         }
     }
 
@@ -78,6 +83,10 @@ impl Group for Cookbooks {
             CookbookOperation::RemoveVersion(name, version) => {
                 version_routes::lacks_version(context, name, *version)
             }
+            CookbookOperation::ShowUniverse => false,
+            CookbookOperation::SolveVersions(environment, _) => {
+                solving_routes::lacks_environment(context, environment)
+            }
         })
     }
 
@@ -89,6 +98,9 @@ impl Group for Cookbooks {
         operation: &CookbookOperation,
     ) -> Result<Needs, NoMemory> {
         let mut needs = Needs::new(alloc);
+        if let CookbookOperation::SolveVersions(environment, _) = operation {
+            needs.push(solving_routes::environment_need(alloc, environment)?)?;
+        }
         needs.push(needed(alloc, context, operation)?)?;
         Ok(needs)
     }
@@ -113,7 +125,9 @@ impl Group for Cookbooks {
             | CookbookOperation::ListCookbooks(_)
             | CookbookOperation::ListVersions(_)
             | CookbookOperation::ShowVersion(_, _)
-            | CookbookOperation::RemoveVersion(_, _) => Ok(None),
+            | CookbookOperation::RemoveVersion(_, _)
+            | CookbookOperation::ShowUniverse
+            | CookbookOperation::SolveVersions(_, _) => Ok(None),
         }
     }
 
@@ -121,7 +135,7 @@ impl Group for Cookbooks {
         &self,
         alloc: Global,
         context: Context<'_>,
-        _lent: &Lent<'_, F>,
+        lent: &Lent<'_, F>,
         operation: CookbookOperation,
         steps: &mut Steps<L>,
     ) -> Result<Prepared, Stop> {
@@ -145,6 +159,13 @@ impl Group for Cookbooks {
             CookbookOperation::RemoveVersion(name, version) => {
                 version_routes::remove(alloc, context, name, version, steps)
             }
+            CookbookOperation::ShowUniverse => {
+                universe_routes::show_universe(alloc, context, steps)
+            }
+            CookbookOperation::SolveVersions(environment, roots) => {
+                let hint = lent.hint;
+                solving_routes::solve_versions(alloc, context, hint, &environment, &roots, steps)
+            }
         }
     }
 }
@@ -164,7 +185,10 @@ fn needed(
         CookbookOperation::CommitSandbox(_) => {
             listed_need(alloc, Perm::Update, Kind::Container, "sandboxes")
         }
-        CookbookOperation::ShowFile(_) | CookbookOperation::ListCookbooks(_) => {
+        CookbookOperation::ShowFile(_)
+        | CookbookOperation::ListCookbooks(_)
+        | CookbookOperation::ShowUniverse
+        | CookbookOperation::SolveVersions(_, _) => {
             listed_need(alloc, Perm::Read, Kind::Container, "cookbooks")
         }
         CookbookOperation::ListVersions(name) | CookbookOperation::ShowVersion(name, _) => {

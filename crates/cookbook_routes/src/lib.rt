@@ -7,7 +7,9 @@ mod laws;
 mod listing_routes;
 mod operations;
 mod sandbox_routes;
+mod solving_routes;
 mod trees;
+mod universe_routes;
 mod version_routes;
 
 pub use cookbooks::Cookbooks;

@@ -2,6 +2,7 @@
 //! table of routes, with all that the path, the parameters and the body say.
 
 use cookbook_editions::Edition;
+use dep_solver::Roots;
 use doc_tree::Text;
 use sandboxes::{Checksum, Hashed, Sums};
 use version_rules::Version;
@@ -45,4 +46,8 @@ pub enum CookbookOperation {
     PutVersion(Text, Version, Edition, bool),
     /// To remove a version of this cookbook.
     RemoveVersion(Text, Version),
+    /// To show the universe of all versions.
+    ShowUniverse,
+    /// To choose the versions of cookbooks that these roots ask for, under the rules of this environment.
+    SolveVersions(Text, Roots),
 }

@@ -283,8 +283,12 @@ pub(crate) fn show<L: Ledger>(
     })
 }
 
-// A manifest as a reply shows it, where one was found.
-fn shown_found(alloc: Global, org: &Text, found: Option<&Edition>) -> Result<Tree, NoMemory>
+/// A manifest as a reply shows it, where one was found.
+pub(crate) fn shown_found(
+    alloc: Global,
+    org: &Text,
+    found: Option<&Edition>,
+) -> Result<Tree, NoMemory>
     ensures { IfOk result (λ tree. doc_of tree ≡ spec.shown_found org.now (option_copied found.entry)) }
 {
     match found {

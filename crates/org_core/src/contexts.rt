@@ -4,6 +4,7 @@ ghost use Rattle.std.specs.Prelude.{◌≡◌};
 ghost use Rattle.org_core.specs.Requests as requests;
 
 use crate::org_state::OrgState;
+use dep_solver::Solved;
 use doc_tree::Text;
 use sandboxes::Files;
 
@@ -30,12 +31,15 @@ pub struct NoFinder;
 
 impl Finder for NoFinder {}
 
-/// All that an operation is lent beside its context: the finder today, and the hint of a
-/// solution as it is built. No group names what it doesn't use.
+/// All that an operation is lent beside its context. No group names what it doesn't use, and nothing here
+/// changes what an operation comes to.
 #[derive(Drop)]
 pub struct Lent<'l, F: Finder> {
     /// What finds objects.
     pub finder: &'l F,
+    /// A solution that was found beforehand, which saves a search where it is of the very same universe, rules
+    /// and roots.
+    pub hint: Option<&'l Solved>,
 }
 
 /// Whether the caller is the operator.

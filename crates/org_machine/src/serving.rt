@@ -19,6 +19,7 @@ ghost use Rattle.org_machine.specs.Steps as spec;
 
 use crate::heads::head_refusal;
 use crate::steps::within;
+use dep_solver::Solved;
 use doc_tree::{NoMemory, Steps};
 use org_core::{
     Context, Lent, Moves, NoFinder, OrgState, Place, Prepared, Refusal, Reply, Request, Stop,
@@ -32,11 +33,16 @@ use std::sync::ledger::Ledger;
 /// stay as they were, with room made; the files of every other organisation stay with all that they
 /// have. Where memory is wanting the reply is 500, with no move. Each object whose body is looked at or
 /// replaced is one step.
+///
+/// The hint is a solution that was found beforehand. Where the request asks for the versions of cookbooks
+/// and the hint is of the very same universe, rules and roots, it saves the search. The reply is the same
+/// with it or without.
 pub fn prepare<L: Ledger>(
     alloc: Global,
     state: &mut OrgState,
     files: &mut Files,
     request: &Request,
+    hint: Option<Solved>,
     steps: &mut Steps<L>,
 ) -> Prepared
     requires of { org_of request.now ≡ Some state.old.name }
@@ -57,7 +63,7 @@ pub fn prepare<L: Ledger>(
     ensures looks { Looks result.reply request.now (full_in state.old files.old) steps.old steps.new }
 {
     state.meets_conditions();
-    prepare_step(alloc, state, files, request, steps)
+    prepare_step(alloc, state, files, request, hint.as_ref(), steps)
 }
 
 // What the step decides, with room for it, or want of memory.
@@ -66,6 +72,7 @@ fn prepare_step<L: Ledger>(
     state: &mut OrgState,
     files: &mut Files,
     request: &Request,
+    hint: Option<&Solved>,
     steps: &mut Steps<L>,
 ) -> Prepared
     requires { org_of request.now ≡ Some state.old.name }
@@ -74,7 +81,7 @@ fn prepare_step<L: Ledger>(
     ensures others { OthersStay state.old.name files.old files.new }
     ensures done { Does result (spec.decided request.now (full_in state.old files.old)) state.new (spare_of files.new state.new.name) steps.old steps.new }
 {
-    match decided(alloc, state, files, request, steps) {
+    match decided(alloc, state, files, request, hint, steps) {
         Ok(prepared) => with_room(alloc, state, files, prepared),
         Err(Stop::Refused(refusal)) => stays(alloc, told(alloc, refusal)),
         Err(Stop::NoMemory) => stays(alloc, out_of_memory()),
@@ -87,6 +94,7 @@ fn decided<L: Ledger>(
     state: &OrgState,
     files: &Files,
     request: &Request,
+    hint: Option<&Solved>,
     steps: &mut Steps<L>,
 ) -> Result<Prepared, Stop>
     requires { org_of request.now ≡ Some state.now.name }
@@ -95,7 +103,7 @@ fn decided<L: Ledger>(
 {
     match head_refusal(request) {
         Some(refusal) => Err(Stop::Refused(refusal)),
-        None => decided_within(alloc, state, files, request, steps),
+        None => decided_within(alloc, state, files, request, hint, steps),
     }
 }
 
@@ -105,6 +113,7 @@ fn decided_within<L: Ledger>(
     state: &OrgState,
     files: &Files,
     request: &Request,
+    hint: Option<&Solved>,
     steps: &mut Steps<L>,
 ) -> Result<Prepared, Stop>
     requires { org_of request.now ≡ Some state.now.name }
@@ -120,7 +129,10 @@ fn decided_within<L: Ledger>(
                 state,
                 files,
             };
-            let lent = Lent { finder: &NoFinder };
+            let lent = Lent {
+                finder: &NoFinder,
+                hint,
+            };
             within(alloc, context, &lent, route, request, steps)
         }
         Place::Organisations | Place::LeftOut | Place::NoRoute | Place::NoMemory => unreachable!(),
@@ -180,13 +192,14 @@ pub fn settle(state: &mut OrgState, files: &mut Files, prepared: Prepared) -> Re
     reply
 }
 
-/// Serves one request: `prepare` and `settle` in turn. A reply other than 200 and 201 leaves state and
+/// Serves one request: `prepare` with this hint, and `settle`. A reply other than 200 and 201 leaves state and
 /// files as they were, and each leaves the files of every other organisation.
 pub fn serve<L: Ledger>(
     alloc: Global,
     state: &mut OrgState,
     files: &mut Files,
     request: &Request,
+    hint: Option<Solved>,
     steps: &mut Steps<L>,
 ) -> Reply
     requires of { org_of request.now ≡ Some state.old.name }
@@ -202,6 +215,6 @@ pub fn serve<L: Ledger>(
     ensures permitted { IsPermittedExactly request.now result (full_in state.old files.old) }
     ensures looks { Looks result request.now (full_in state.old files.old) steps.old steps.new }
 {
-    let prepared = prepare(alloc, state, files, request, steps);
+    let prepared = prepare(alloc, state, files, request, hint, steps);
     settle(state, files, prepared)
 }

@@ -93,7 +93,7 @@ fn replied<L: Ledger>(
     ensures files { MeetsFileConditions (full_in state.new files.new) }
 {
     let request = on_acme(alloc, verb, words, body)?;
-    shown(alloc, serve(alloc, state, files, &request, steps))
+    shown(alloc, serve(alloc, state, files, &request, None, steps))
 }
 
 /// Adds the replies to requests on `acme`, one after another.
@@ -203,7 +203,7 @@ fn made<L: Ledger>(
     requires of { org_of create.now ≡ Some state.old.name }
     requires files { MeetsFileConditions (full_in state.old files.old) }
 {
-    let prepared = prepare(alloc, state, files, create, steps);
+    let prepared = prepare(alloc, state, files, create, None, steps);
     let moves = prepared.moves.len();
     let before = state.is_there();
     let status = settle(state, files, prepared).status;

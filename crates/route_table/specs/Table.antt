@@ -127,10 +127,10 @@ cookbooks =
     route (within (fixed (codes "cookbooks") ∷ [])) Cookbooks (get built ∷ [])
     ∷ route (within (fixed (codes "cookbooks") ∷ any ∷ [])) Cookbook (get built ∷ [])
     ∷ route (within (fixed (codes "cookbooks") ∷ any ∷ any ∷ [])) CookbookVersion (get built ∷ put built ∷ delete built ∷ [])
-    ∷ route (within (fixed (codes "universe") ∷ [])) Universe (get later ∷ [])
+    ∷ route (within (fixed (codes "universe") ∷ [])) Universe (get built ∷ [])
     ∷ route (within (fixed (codes "cookbook_artifacts") ∷ [])) Artifacts (get later ∷ [])
     ∷ route (within (fixed (codes "cookbook_artifacts") ∷ any ∷ any ∷ [])) Artifact (get later ∷ put later ∷ delete later ∷ [])
-    ∷ route (within (fixed (codes "environments") ∷ any ∷ fixed (codes "cookbook_versions") ∷ [])) SolvedVersions (post later ∷ [])
+    ∷ route (within (fixed (codes "environments") ∷ any ∷ fixed (codes "cookbook_versions") ∷ [])) SolvedVersions (post built ∷ [])
     ∷ []
 
 -- policies and their groups
