@@ -1,4 +1,5 @@
 """Requests and the replies that are due, as bytes: what the checks that are written in Python share."""
+import signal
 import subprocess
 import sys
 
@@ -18,8 +19,9 @@ def message(method, target, body="", headers=OPERATOR):
 
 
 def reply(status, body, form="application/json"):
+    body = body.encode()
     head = "HTTP/1.1 %d %s\r\nContent-Type: %s\r\nContent-Length: %d\r\n\r\n"
-    return (head % (status, PHRASES[status], form, len(body)) + body).encode()
+    return (head % (status, PHRASES[status], form, len(body))).encode() + body
 
 
 def replies(text):
@@ -55,17 +57,22 @@ def listed(path, names):
     return "{%s}" % ",".join('"%s":"%s%s"' % (name, path, name) for name in sorted(names))
 
 
-def ran(program, sent, words=("answer",), **options):
-    return subprocess.run([program, *words], input=sent, capture_output=True, timeout=120, **options)
+def ran(program, sent, words=("answer",), timeout=120, **options):
+    return subprocess.run([program, *words], input=sent, capture_output=True, timeout=timeout, **options)
 
 
 def fail(text):
     sys.exit("%s: %s" % (sys.argv[0].rsplit("/", 1)[-1], text))
 
 
-def compare(program, rows):
+def compare(program, rows, **options):
     """Sends the requests of the rows in one stream, and tells the first whose reply isn't the one that is due."""
-    told = ran(program, b"".join(sent for sent, _ in rows))
+    try:
+        told = ran(program, b"".join(sent for sent, _ in rows), **options)
+    except subprocess.TimeoutExpired as late:
+        fail("the run isn't at its end within %d seconds" % late.timeout)
+    if told.returncode == -signal.SIGXCPU:
+        fail("the run takes more processor time than it may")
     start = 0
     for sent, due in rows:
         if not told.stdout.startswith(due, start):

@@ -7,21 +7,13 @@ mod group;
 mod group_map;
 mod groups;
 mod laws;
-#[cfg(test)]
-mod listing_tests;
 mod lists;
 mod member_kind;
 mod name_set;
 mod perm;
 mod permission;
-#[cfg(test)]
-mod permission_tests;
 mod reading;
 mod starting;
-#[cfg(test)]
-mod stranger_tests;
-#[cfg(test)]
-mod tests;
 mod text_set;
 mod writing;
 

@@ -215,5 +215,6 @@ access_rules = record {
   lacks = access_lacks;
   needs = λ context operation. access_needs operation;
   own_refusal = access_refusal;
+  searches = λ context operation. None;
   does = access_does;
 }

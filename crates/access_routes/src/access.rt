@@ -9,9 +9,9 @@ use crate::operations::AccessOperation;
 use crate::{containers, groups, lists, users};
 use access_lists::{MemberKind, Perm, is_starting_group};
 use doc_tree::{Kind, NoMemory, Steps, Text};
+use object_finder::Finder;
 use org_core::{
-    AccessRoute, Context, Finder, Group, Lent, Need, Needs, Prepared, Refusal, Request, Stop,
-    listed_need,
+    AccessRoute, Context, Group, Lent, Need, Needs, Prepared, Refusal, Request, Stop, listed_need,
 };
 use route_table::Verb;
 use std::alloc::Global;

@@ -10,8 +10,6 @@ mod merged;
 mod merging;
 mod nodes;
 mod parts;
-#[cfg(test)]
-mod tests;
 
 pub use laws::leaves_show_what_is_below;
 pub use layers::{Layer, are_layers};

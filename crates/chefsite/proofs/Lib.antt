@@ -1,8 +1,10 @@
+mod IndexLemmas
 mod ShardLemmas
 mod ListingLemmas
 mod AloneLemmas
 mod TurnLemmas
 mod EndingLemmas
-mod ContractLemmas
 mod WordLemmas
+mod DemoLemmas
+mod ContractLemmas
 mod NoteLemmas

@@ -1,16 +1,41 @@
--- What std's calls on text say of words.
-use Rattle.std.proofs.Common.{◌≡◌, ℕ, true, false, List, Option, None, Some, MatchOption, sym, subst, refl, option_copied}
-use Rattle.std.specs.Borrow.{Bor}
-use Rattle.std.specs.Str.{IsCharBoundary}
-use Rattle.std.specs.Str.Pattern.{FindsTextPrefix, StripsPrefix}
-use Rattle.std.proofs.lemmas.Str.Pattern.{starts_text}
-use Rattle.chefsite.specs.Words.{behind_front}
+-- The size of a demo that words name is in its range.
+use Rattle.std.proofs.Common.{◌≡◌, ◌≤◌, ℕ, Bool, true, false, cond, List, [], ◌∷◌, Option, None, Some, refl, subst, rules}
+use Rattle.std.specs.Prelude.{bytes_eq, codes, option_map, option_and_then}
+use Rattle.command_words.specs.Words.{explain, demo, answer_with, explain_with, demo_with, command_of, only_value, number_in, is_size, size_in}
 
--- `strip_prefix` at a text
-pub behind_front-strip : (n s : List ℕ) (r : Option (Bor (List ℕ)))
-    → MatchOption r (FindsTextPrefix n s None) (λ x. StripsPrefix (FindsTextPrefix n) s x.now) → option_copied r ≡ behind_front n s
-behind_front-strip n s None none = rw (sym (starts_text false n s none)) refl
-behind_front-strip n s (Some x) (k, finds, is, fits) =
-    let B : ℕ → Type 0 = λ j. IsCharBoundary s j in
-    let starts = starts_text true n s (k, finds, subst B (sym finds.0) finds.2) in
-    rw (sym starts, is, finds.0) refl
+in_range : (n : ℕ) → is_size n ≡ true → n ≤ 200
+in_range n test = search rules
+
+by_test : (is : Bool) (n size : ℕ) → is_size n ≡ is → option_map demo (cond is (Some n) None) ≡ Some (demo size) → size ≤ 200
+by_test true n size test read =
+    let same : n ≡ size = cc read in
+    subst (λ k. k ≤ 200) same (in_range n test)
+by_test false n size test read = absurd (cc read)
+
+by_number : (number : Option ℕ) (size : ℕ) → option_map demo (option_and_then (λ n. cond (is_size n) (Some n) None) number) ≡ Some (demo size) → size ≤ 200
+by_number None size read = absurd (cc read)
+by_number (Some n) size read = by_test (is_size n) n size refl read
+
+by_value : (value : Option (List ℕ)) (size : ℕ) → option_map demo (option_and_then size_in value) ≡ Some (demo size) → size ≤ 200
+by_value None size read = absurd (cc read)
+by_value (Some text) size read = by_number (number_in text) size read
+
+not_answer : (words : List (List ℕ)) (size : ℕ) → answer_with words ≡ Some (demo size) → ⊥
+not_answer [] size read = cc read
+not_answer (word ∷ words) size read = cc read
+
+not_explain : (file : Option (List ℕ)) (size : ℕ) → option_map explain file ≡ Some (demo size) → ⊥
+not_explain None size read = cc read
+not_explain (Some file) size read = cc read
+
+by_word : (is_answer is_explain is_demo : Bool) (words : List (List ℕ)) (size : ℕ)
+    → cond is_answer (answer_with words) (cond is_explain (explain_with words) (cond is_demo (demo_with words) None)) ≡ Some (demo size) → size ≤ 200
+by_word true is_explain is_demo words size read = absurd (not_answer words size read)
+by_word false true is_demo words size read = absurd (not_explain (only_value (codes "--sources") words) size read)
+by_word false false true words size read = by_value (only_value (codes "--size") words) size read
+by_word false false false words size read = absurd (cc read)
+
+pub size_is_small : (given : List (List ℕ)) (size : ℕ) → command_of given ≡ Some (demo size) → size ≤ 200
+size_is_small [] size read = absurd (cc read)
+size_is_small (word ∷ words) size read =
+    by_word (bytes_eq word (codes "answer")) (bytes_eq word (codes "explain")) (bytes_eq word (codes "demo")) words size read

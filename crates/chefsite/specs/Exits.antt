@@ -6,7 +6,7 @@ use Rattle.outside_disk.specs.Disk.{Files}
 use Rattle.chefsite.specs.declared.statuses.Status.{Status}
 use Rattle.chefsite.specs.declared.statuses.Status.TheVariants.{Usage}
 use Rattle.chefsite.specs.Statuses.{code}
-use Rattle.chefsite.specs.Words.{IsCommand, command_of, file_of}
+use Rattle.command_words.specs.Words.{IsCommand, command_of, file_of}
 use Rattle.chefsite.specs.Notes.{IsNoted}
 use Rattle.chefsite.specs.Theorems.{Course, Ran}
 

@@ -1,13 +1,13 @@
-pub mod Words
-pub mod Reading
 pub mod Statuses
 pub mod Notes
 pub mod Organisations
+pub mod Indexing
 pub mod Shards
 pub mod Listing
 pub mod Isolation
 pub mod Turns
 pub mod Endings
 pub mod Explaining
+pub mod Demonstrating
 pub mod Theorems
 pub mod Exits

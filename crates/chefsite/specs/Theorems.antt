@@ -22,7 +22,7 @@
 --   Answers                    specs/Isolation.antt             one reply to each message, and to each organisation the bytes that it would get alone
 --   IsAnswered and its kin     specs/Isolation.antt             what a run read, what it answered and what it wrote
 --   TellsRest, IsComplete      specs/Endings.antt               what a status tells of the rest, and what leaves no other
---   command_of                 specs/Words.antt                 the command that the words are
+--   command_of                 command_words/specs/Words.antt   the command that the words are
 --   IsNoted                    specs/Notes.antt                 the line of a status
 --   Ends                       specs/Exits.antt                 the number with which the process ends
 --
@@ -32,6 +32,12 @@
 --   layers_in                  layer_sources/specs/Sources.antt the layers that these bytes give, if they have the format
 --   IsFile                     outside_disk/specs/Disk.antt     the file of a name, where the disk tells its files
 --   IsBadFile, IsExplainedBy   specs/Explaining.antt            what the disk tells of a file is no sources file; these lines explain it
+--
+-- What `demo` prints is told by `Demonstrated`, which stands on these:
+--
+--   demo_requests              demo_requests/specs/DemoRequests.antt  the requests of a demo of a size
+--   lines                      demo_requests/specs/Lines.antt   the five lines that tell what replies come to
+--   Demonstrates, IsToldOf     specs/Demonstrating.antt         one reply to each request, and to each organisation those that it would get alone; these are the lines of such replies
 --
 -- The limits of these clauses:
 --
@@ -45,17 +51,18 @@
 -- * The operator's listing of organisations tells who is there, and is of no organisation. That the header which
 --   names the caller is true is the promise of the front that sets it.
 -- * Time, memory used, and that a reader gets what was written.
-use Rattle.std.specs.Prelude.{◌≡◌, ◌≢◌, ◌⊎◌, ◌↔◌, ℕ, List, Option, Some}
+use Rattle.std.specs.Prelude.{◌≡◌, ◌≢◌, ◌⊎◌, ℕ, List, Option, Some}
 use Rattle.std.specs.Io.KnownBytes.{append_known}
 use Rattle.outside_core.specs.Failed.{Rose}
 use Rattle.outside_core.specs.Sink.{GainsPart}
 use Rattle.outside_disk.specs.Disk.{Files}
 use Rattle.chefsite.specs.declared.statuses.Status.{Status}
 use Rattle.chefsite.specs.declared.statuses.Status.TheVariants.{Done, Usage, ReadFault, WriteFault, NoMemory, NotAMessage, BadFile}
-use Rattle.chefsite.specs.Words.{IsCommand, answer, explain, command_of, file_of}
+use Rattle.command_words.specs.Words.{IsCommand, answer, explain, demo, command_of, file_of}
 use Rattle.chefsite.specs.Isolation.{IsAnswered, IsAnsweredToRest, IsAnsweredUpTo, IsCutShort}
 use Rattle.chefsite.specs.Endings.{TellsRest, IsComplete}
 use Rattle.chefsite.specs.Explaining.{HasNoSources, IsBadFile, IsExplainedBy}
+use Rattle.chefsite.specs.Demonstrating.{IsToldOf}
 use Rattle.chefsite.specs.Notes.{IsNoted}
 
 -- the course of an input, an output, notes or a disk over a run: what it tells, which is the bytes that an input has left
@@ -120,16 +127,40 @@ pub record Explained (status : Status) (file : List ℕ) (input output : Course 
   -- the files are as they were
   pub kept : disk.new ≡ disk.old
 
+-- a run of `demo` with this size ended with this status
+pub record Demonstrated (status : Status) (size : ℕ) (input output : Course (List ℕ)) (disk : Course Files) : Type 0 where
+  -- 0: the output gained the five lines of some replies to the demo's requests, of which each organisation got those that it
+  -- would get alone, and nothing else
+  pub done : status ≡ Done → (text : List ℕ) × IsToldOf size text × (output.new ≡ append_known output.old text)
+  -- 4: a front of such lines was written
+  pub write_fault : status ≡ WriteFault → (text : List ℕ) × IsToldOf size text × GainsPart output.old output.new text
+  -- and only where a write failed
+  pub write_cause : status ≡ WriteFault → Rose output.faults_before output.faults_after
+  -- 7: nothing was written
+  pub nothing : status ≡ NoMemory → output.new ≡ output.old
+  -- no other status comes
+  pub statuses : (status ≡ Done) ⊎ (status ≡ WriteFault) ⊎ (status ≡ NoMemory)
+  -- a count that didn't rise leaves 0 and 7
+  pub complete : ¬ (Rose output.faults_before output.faults_after) → (status ≡ Done) ⊎ (status ≡ NoMemory)
+  -- the input isn't looked at
+  pub no_input : IsUntouched input
+  -- and no file is
+  pub no_file : IsUntouched disk
+
 -- the command that these words are ended with this status
 pub record Performed (status : Status) (words : List (List ℕ)) (input output : Course (List ℕ)) (disk : Course Files) : Type 0 where
-  -- 2: exactly where the words are no command
-  pub usage : (status ≡ Usage) ↔ ¬ (IsCommand words)
+  -- 2: only where the words are no command
+  pub usage : status ≡ Usage → ¬ (IsCommand words)
+  -- and where they are none it is 2, but for want of memory to read them
+  pub no_command : ¬ (IsCommand words) → (status ≡ Usage) ⊎ (status ≡ NoMemory)
   -- and then nothing was read or written
-  pub idle : status ≡ Usage → IsUntouched input × IsUntouched output × IsUntouched disk
+  pub idle : ¬ (IsCommand words) → IsUntouched input × IsUntouched output × IsUntouched disk
   -- `answer`: the isolation theorem
   pub answered : command_of words ≡ Some answer → Answered status input output disk
   -- `explain`
   pub explained : (file : List ℕ) → command_of words ≡ Some (explain file) → Explained status file input output disk
+  -- `demo`
+  pub demonstrated : (size : ℕ) → command_of words ≡ Some (demo size) → Demonstrated status size input output disk
 
 -- a run of these words ended with this status; `before` and `after` are the notes as a value
 pub record Ran {N : Type 0} (status : Status) (words : List (List ℕ)) (input output notes : Course (List ℕ)) (disk : Course Files) (before after : N) : Type 0 where

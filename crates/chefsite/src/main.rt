@@ -1,9 +1,11 @@
 //! chefsite: a Chef Infra Server. `answer` reads requests from standard input to its end and writes
-//! the replies to standard output; `explain` prints the merge of a file's layers of attributes.
+//! the replies to standard output; `explain` prints the merge of a file's layers of attributes; `demo` serves requests
+//! that are drawn from a number, and prints what their replies come to.
 #![tactic(auto)]
 
 mod answer;
 mod answering;
+mod demo;
 mod explain;
 mod laws;
 mod listing;
@@ -13,15 +15,18 @@ mod numbers;
 mod shards;
 mod site;
 mod statuses;
-mod words;
 
-ghost use Rattle.std.specs.Prelude.{◌≡◌, ◌⊎◌, ◌↔◌, ◌<◌, IfErr, IfOk, drop, map, string_bytes};
+ghost use Rattle.std.specs.Prelude.{◌≡◌, ◌⊎◌, ◌↔◌, ◌<◌, ℕ, List, [], Some, IfErr, IfOk, drop, map, string_bytes};
 ghost use Rattle.std.specs.Vec.Iter.{into_iter_items};
+ghost use Rattle.command_words.specs.Reading.{told};
+ghost use Rattle.command_words.specs.Words as spec;
 ghost use Rattle.chefsite.specs.Theorems.{Performed, Ran};
 ghost use Rattle.chefsite.specs.Exits.{Ends, EndsNoted, EndsAsRan};
 ghost use Rattle.chefsite.specs.Notes.{IsNoted};
 
 use answer::answer;
+use command_words::{Command, command_of};
+use demo::demo;
 use doc_tree::{NoMemory, Steps, Text};
 use explain::explain;
 pub use laws::two_worlds;
@@ -39,7 +44,6 @@ use std::process::ExitCode;
 use std::random::RandomSource;
 use std::rt::{Env, Stderr, Stdin, Stdout};
 use std::sync::ledger::{Blank, Ledger};
-use words::{Command, command_of, file_in};
 
 /// Runs the command that the words name, notes why it ended, and waits for nobody. The maps of the run
 /// hash by `hasher`, which changes no reply.
@@ -63,29 +67,47 @@ pub fn once<I: Source, U: Sink, N: Sink, F: Disk, L: Ledger>(
         notes.old notes.new }
 {
     let mut steps: Steps<L> = Steps::begin(blank);
-    let status = perform(alloc, words, input, output, files, hasher, &mut steps);
-    note(notes, status, file_in(words));
+    match command_of(alloc, words) {
+        Ok(Some(command)) => {
+            let status = perform(alloc, &command, input, output, files, hasher, &mut steps);
+            note(notes, status, command.file());
+            status
+        }
+        Ok(None) => without_command(notes, Status::Usage),
+        Err(NoMemory) => without_command(notes, Status::NoMemory),
+    }
+}
+
+// Notes why no command is run.
+fn without_command<N: Sink>(notes: &mut N, status: Status) -> Status
+    ensures same { result ≡ status }
+    ensures noted { IsNoted status [] (N.gained notes.old) (N.gained notes.new) (N.faults notes.old) (N.faults notes.new) }
+    ensures quiet { status ≡ Status.Done → notes.new ≡ notes.old }
+{
+    note(notes, status, "");
     status
 }
 
+// Runs a command that was read from some words.
 fn perform<I: Source, U: Sink, F: Disk, L: Ledger>(
     alloc: Global,
-    words: &[Text],
+    command: &Command,
     input: &mut I,
     output: &mut U,
     files: &mut F,
     hasher: RandomState,
     steps: &mut Steps<L>,
 ) -> Status
-    ensures { Performed result words.now
+    requires { (given : List (List ℕ)) × (spec.command_of given ≡ Some (told command.now)) }
+    ensures { (given : List (List ℕ)) → spec.command_of given ≡ Some (told command.now) → Performed result given
         (record { old = I.left input.old; new = I.left input.new; faults_before = I.faults input.old; faults_after = I.faults input.new })
         (record { old = U.gained output.old; new = U.gained output.new; faults_before = U.faults output.old; faults_after = U.faults output.new })
         (record { old = F.files files.old; new = F.files files.new; faults_before = F.faults files.old; faults_after = F.faults files.new }) }
 {
-    match command_of(words) {
-        Some(Command::Answer) => answer(alloc, input, output, hasher, steps),
-        Some(Command::Explain(file)) => explain(alloc, file, output, files),
-        None => Status::Usage,
+    match command {
+        Command::Answer => answer(alloc, input, output, hasher, steps),
+        Command::Explain(file) => explain(alloc, file.as_str(), output, files),
+        Command::Demo(size) => demo(alloc, *size, output, hasher, steps),
     }
 }
 
@@ -141,11 +163,11 @@ fn with_streams<R: RandomSource + AllocGlobal, I: Read + Drop, U: Write + Drop, 
         (record { old = N.gained notes.old; new = N.gained notes.new; faults_before = N.faults notes.old; faults_after = N.faults notes.new }) }
 {
     let Ok(reader) = BufReader::new(rt.alloc(), input) else {
-        return end_before(notes, Status::NoMemory, file_in(words));
+        return end_without_memory(notes);
     };
     // Keys of its own for the maps, so that nobody can choose names that collide in them.
     let Ok(hasher) = RandomState::new(rt) else {
-        return end_before(notes, Status::NoMemory, file_in(words));
+        return end_without_memory(notes);
     };
     let mut input = Reading::new(reader);
     let mut output = Writing::new(output);
@@ -158,6 +180,14 @@ fn with_streams<R: RandomSource + AllocGlobal, I: Read + Drop, U: Write + Drop, 
         files,
         hasher,
     )
+}
+
+// Ends for want of memory, whatever the words are.
+fn end_without_memory<N: Sink>(notes: &mut N) -> ExitCode
+    ensures { (words : List (List ℕ)) → EndsNoted result words
+        (record { old = N.gained notes.old; new = N.gained notes.new; faults_before = N.faults notes.old; faults_after = N.faults notes.new }) }
+{
+    end_before(notes, Status::NoMemory, "")
 }
 
 // Runs the words, and ends with the number of the run's status.

@@ -1,13 +1,17 @@
 //! The organisations of a site, kept in shards: the contract that a shard has is all that the
 //! theorem above stands on.
 
-ghost use Rattle.std.specs.Prelude.{◌≡◌, ◌≢◌, ℕ, List, Some, None, cond, bytes_eq, true};
+ghost use Rattle.std.specs.Prelude.{◌≡◌, ◌≢◌, ℕ, List, Some, None, cond, bytes_eq, is_some, true};
 ghost use Rattle.std.specs.Option.{ForSome};
 ghost use Rattle.org_core.specs.States.{state_in};
 ghost use Rattle.sandboxes.specs.Files.{holding_of};
 ghost use Rattle.sandboxes.specs.Sandboxes.{nothing, holding_code};
 ghost use base.Stored.{Coded-set, coded_bool};
 ghost use Rattle.org_core.specs.FullStates.{MeetsFileConditions, is_committed};
+ghost use Rattle.shard_core.specs.Keeping.{held_in};
+ghost use Rattle.object_finder.specs.Indexes.{found_by, pairs_by};
+ghost use Rattle.search_query.specs.Pair.{lists};
+ghost use Rattle.chefsite.specs.Indexing.{IsIndexed, objects_at};
 ghost use Rattle.chefsite.specs.Organisations.{kept_at, full_at, kept_if_there, HasRoomFor};
 
 use crate::names::{add_name, is_shown};
@@ -15,22 +19,26 @@ use doc_tree::{NoMemory, Steps, Text};
 use indexmap::IndexMap;
 use org_machine::{OrgState, Reply, Request, out_of_memory};
 use sandboxes::Files;
+use shard_core::Indexed;
 use std::alloc::Global;
 use std::collections::BTreeSet;
 use std::hash::RandomState;
 use std::sync::ledger::Ledger;
 
-/// The organisations of one shard, by their names, and the files of all of them.
+/// The organisations of one shard, by their names, with the files of all of them, and the index of all their objects.
 #[derive(Drop)]
 pub struct Shard {
     organisations: Organisations,
     files: Files,
+    index: Indexed,
     hasher: RandomState,
     ghost named: { (name : List ℕ) → ForSome (kept_at organisations name) (λ kept. kept.name ≡ name) },
     // None is kept that isn't there, so what is asked of strangers costs no memory.
     ghost there: { (name : List ℕ) → ForSome (kept_at organisations name) (λ kept. state_in kept ≢ None) },
     // And the files of each meet their conditions, so who isn't kept has none.
     ghost conditions: { (name : List ℕ) → MeetsFileConditions (full_at organisations files name) } by { λ one other i name. record { nobody = λ none. Coded-set holding_code (holding_of files name) nothing ((one name).nobody none) ((other name).nobody none) i; named = λ cookbook version manifest sum at names. Coded-set coded_bool (is_committed (holding_of files name) sum) true ((one name).named cookbook version manifest sum at names) ((other name).named cookbook version manifest sum at names) i } },
+    // The index holds each organisation's objects with their pairs, and no others.
+    ghost indexed: { IsIndexed organisations (held_in index) } by { λ one other i name. record { there = λ word n plain. Coded-set coded_bool ((held_in index).has_object name word n) (is_some (found_by word n (objects_at organisations name))) ((one name).there word n plain) ((other name).there word n plain) i; pairs = λ word n pair plain. Coded-set coded_bool ((held_in index).has_pair name word n pair) (lists (pairs_by word n (objects_at organisations name)) pair) ((one name).pairs word n pair plain) ((other name).pairs word n pair plain) i } },
 }
 
 /// The organisations of a shard, by their names.
@@ -41,7 +49,8 @@ impl Shard {
     ghost use Rattle.org_core.specs.FullStates.{none};
     ghost use Rattle.org_core.specs.Requests.{org_of};
     ghost use Rattle.org_machine.specs.Marks.{mark_of, answer, IsLawful};
-    ghost use Rattle.org_machine.specs.Serving.{IsGood, state_then};
+    ghost use Rattle.org_machine.specs.Serving.{IsGood, Looks, state_then};
+    ghost use Rattle.chefsite.specs.Indexing.{no_looks};
     ghost use Rattle.chefsite.specs.Shards.{states_in, HasRoom};
     ghost use Rattle.chefsite.specs.Listing.{has, adds};
 
@@ -52,6 +61,7 @@ impl Shard {
         Shard {
             organisations: IndexMap::with_hasher(alloc, hasher),
             files: Files::none(alloc),
+            index: Indexed::none(alloc),
             hasher,
         }
     }
@@ -72,9 +82,23 @@ impl Shard {
             states_in self.new name ≡ state_then name request.now result (states_in self.old name) }
         // A reply other than 200 and 201 leaves every state as it was.
         ensures stays { ¬ (IsGood result.status) → (name : List ℕ) → states_in self.new name ≡ states_in self.old name }
+        // The index holds each organisation's objects with their pairs as they are now, and no others.
+        ensures indexed { IsIndexed self.new.organisations (held_in self.new.index) }
+        // A step is a body that the request itself looks at: to find objects the index looks at none.
+        ensures looks { Looks no_looks result request.now (states_in self.old org.now) steps.old steps.new }
     {
         match self.organisations.get_mut(org) {
-            Some(state) => org_machine::serve(alloc, state, &mut self.files, request, None, steps),
+            Some(state) => {
+                org_machine::serve(
+                    alloc,
+                    state,
+                    &mut self.files,
+                    request,
+                    None,
+                    &mut self.index,
+                    steps,
+                )
+            }
             None => self.serve_absent(alloc, org, request, steps),
         }
     }
@@ -115,6 +139,7 @@ impl Shard {
         ensures lawful { IsLawful (mark_of result) request.now (states_in self.old org.now) }
         ensures states { (name : List ℕ) →
             states_in self.new name ≡ state_then name request.now result (states_in self.old name) }
+        ensures looks { Looks no_looks result request.now (states_in self.old org.now) steps.old steps.new }
     {
         match self.make_room(alloc, org) {
             Ok((key, state)) => self.serve_new(alloc, key, state, request, steps),
@@ -154,9 +179,18 @@ impl Shard {
         ensures lawful { IsLawful (mark_of result) request.now (states_in self.old key) }
         ensures states { (name : List ℕ) →
             states_in self.new name ≡ state_then name request.now result (states_in self.old name) }
+        ensures looks { Looks no_looks result request.now (states_in self.old key) steps.old steps.new }
     {
         let mut state = state;
-        let reply = org_machine::serve(alloc, &mut state, &mut self.files, request, None, steps);
+        let reply = org_machine::serve(
+            alloc,
+            &mut state,
+            &mut self.files,
+            request,
+            None,
+            &mut self.index,
+            steps,
+        );
         keep_if_there(&mut self.organisations, key, state);
         reply
     }

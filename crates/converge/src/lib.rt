@@ -11,8 +11,6 @@ mod needs;
 mod outcome;
 mod report;
 mod runs;
-#[cfg(test)]
-mod tests;
 
 pub use converging::converge;
 pub use laws::{settled_hosts_stay, well_runs_settle};

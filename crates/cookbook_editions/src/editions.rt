@@ -229,11 +229,11 @@ fn sum_of(entry: &Entry) -> Checksum
 fn copy_needs(alloc: Global, needs: &Needs) -> Result<Needs, NoMemory>
     ensures { IfOk result (λ copies. copies ≡ needs.now) }
 {
-    let mut copies = Needs::new(alloc);
+    let mut copies = Vec::with_capacity(alloc, needs.len())?;
     for need in needs.as_slice() {
         copies.push(need.copy(alloc)?)?;
     }
-    Ok(copies)
+    Ok(Needs::of(copies))
 }
 
 /// The same fields with `frozen?` true.

@@ -5,8 +5,6 @@ mod editions;
 mod laws;
 mod segments;
 mod showing;
-#[cfg(test)]
-mod tests;
 mod universes;
 
 pub use editions::Edition;

@@ -17,13 +17,14 @@ use version_rules::Version;
 pub fn universe_of(alloc: Global, stored: &Shelves<Version, Edition>) -> Result<Universe, NoMemory>
     ensures { IfOk result (λ universe. universe ≡ spec.universe_of (shelves_of version_cmp stored.now)) }
 {
-    let mut cookbooks = Cookbooks::new(alloc);
+    let mut cookbooks = Vec::with_capacity(alloc, stored.shelves().len())?;
     for (name, shelf) in stored.shelves() {
         match Name::of(name.copy(alloc)?) {
             Ok(name) => cookbooks.push(cookbook_of(alloc, name, shelf)?)?,
             Err(_) => {}
         }
     }
+    let cookbooks = Cookbooks::of(cookbooks);
     Ok(Universe { cookbooks })
 }
 
@@ -41,11 +42,11 @@ fn cookbook_of(
 fn releases_of(alloc: Global, entries: &[(Version, Edition)]) -> Result<Releases, NoMemory>
     ensures { IfOk result (λ releases. releases ≡ map spec.release_of entries.now) }
 {
-    let mut releases = Releases::new(alloc);
+    let mut releases = Vec::with_capacity(alloc, entries.len())?;
     for (version, edition) in entries {
         releases.push(release_of(alloc, *version, edition)?)?;
     }
-    Ok(releases)
+    Ok(Releases::of(releases))
 }
 
 fn release_of(alloc: Global, version: Version, edition: &Edition) -> Result<Release, NoMemory>

@@ -14,8 +14,6 @@ mod parts;
 mod put;
 mod segments;
 mod stored;
-#[cfg(test)]
-mod tests;
 
 pub use artifacts::read_artifact;
 pub use entries::{Entries, Entry};

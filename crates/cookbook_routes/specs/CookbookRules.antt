@@ -270,5 +270,6 @@ cookbook_rules = record {
   lacks = cookbook_lacks;
   needs = cookbook_needs;
   own_refusal = cookbook_refusal;
+  searches = λ context operation. None;
   does = cookbook_does;
 }

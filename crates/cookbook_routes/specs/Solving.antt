@@ -55,8 +55,8 @@ chosen_doc context pins = dict (pairs_of (with_pairs (map (chosen_pair context) 
 
 -- 200 with them, or the refusal. The environment is looked at, and each version that is chosen
 abbrev pub solved_as : Context → Result (List Pin) Refusal → Decided
-solved_as context (Ok pins) = record { answer = Ok (record { told = shows (chosen_doc context pins); moves = [] }); looks = 1 + length pins }
-solved_as context (Err refusal) = record { answer = Err refusal; looks = 1 }
+solved_as context (Ok pins) = record { answer = Ok (record { told = shows (chosen_doc context pins); moves = [] }); looks = 1 + length pins; searched = None }
+solved_as context (Err refusal) = record { answer = Err refusal; looks = 1; searched = None }
 
 -- the best set of all cookbook versions of the organisation, under the rules of the environment
 abbrev pub versions_solved : Context → List ℕ → Roots → Decided

@@ -10,9 +10,9 @@ use crate::{
 };
 use access_lists::Perm;
 use doc_tree::{Kind, NoMemory, Steps};
+use object_finder::Finder;
 use org_core::{
-    Context, CookbookRoute, Finder, Group, Lent, Need, Needs, Prepared, Refusal, Request, Stop,
-    listed_need,
+    Context, CookbookRoute, Group, Lent, Need, Needs, Prepared, Refusal, Request, Stop, listed_need,
 };
 use std::alloc::Global;
 use std::sync::ledger::Ledger;

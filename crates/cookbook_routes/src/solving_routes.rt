@@ -22,7 +22,7 @@ use crate::version_routes::{shown_found, stored_at};
 use access_lists::Perm;
 use cookbook_editions::universe_of;
 use cookbook_meta::{MetaFault, read_needs};
-use dep_solver::{EnvRules, NoSolution, Pin, Pins, Roots, Solved, Universe, solve};
+use dep_solver::{EnvRules, NoSolution, Pin, Pins, Roots, Solved, Universe, best_pins};
 use doc_tree::{Fields, Kind, NoMemory, Steps, Text, Tree, is_name};
 use org_core::{
     Body, Context, Moves, Need, Prepared, Refusal, Stop, absent, document_in, listed_need, shown,
@@ -221,11 +221,8 @@ fn solves(solved: &Solved, universe: &Universe, rules: &EnvRules, roots: &Roots)
 fn found(alloc: Global, universe: &Universe, rules: &EnvRules, roots: &Roots) -> Result<Pins, Stop>
     ensures { Tells result (spec.chosen universe.now rules.now roots.now) }
 {
-    match solve(alloc, universe, rules, roots) {
-        Ok(solved) => {
-            let Solved { chosen, .. } = solved;
-            Ok(chosen)
-        }
+    match best_pins(alloc, universe, rules, roots) {
+        Ok(pins) => Ok(pins),
         Err(
             NoSolution::Unsolvable {
                 no_cookbook,

@@ -11,6 +11,7 @@ pub mod CandidateLemmas
 pub mod MeasureLemmas
 pub mod LoopLemmas
 pub mod SeenLemmas
+pub mod MarkLemmas
 pub mod RefusalLemmas
 pub mod DistinctLemmas
 pub mod SolvedLemmas

@@ -7,4 +7,6 @@ pub mod Chosen
 pub mod Refusals
 pub mod Laws
 pub mod Search
+pub mod Keys
+pub mod Straight
 pub mod Conflicts

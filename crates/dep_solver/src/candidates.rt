@@ -79,7 +79,7 @@ pub(crate) fn fits(
 }
 
 // The version is the one of each pin on the name.
-fn are_pins_met(pins: &[Pin], name: &Name, version: &Version) -> bool
+pub(crate) fn are_pins_met(pins: &[Pin], name: &Name, version: &Version) -> bool
     ensures { IsTrue result ↔ ((pin : Pin) → Contains pins.now pin → pin.name ≡ name.now → version.now ≡ pin.version) }
 {
     for pin in pins {
@@ -108,10 +108,10 @@ pub(crate) fn are_needs_met(needs: &[Need], name: &Name, version: &Version) -> b
     true
 }
 
-fn is_need_met(need: &Need, name: &Name, version: &Version) -> bool
+pub(crate) fn is_need_met(need: &Need, name: &Name, version: &Version) -> bool
     ensures { IsTrue result ↔ (need.now.name ≡ name.now → Meets version.now need.now.constraint) }
 {
-    need.name != *name || meets(version, &need.constraint)
+    meets(version, &need.constraint) || need.name != *name
 }
 
 // The version meets what each place needs of the name.
@@ -149,10 +149,10 @@ pub(crate) fn do_meet(need: &Need, places: &[Place<'_>]) -> bool
     true
 }
 
-fn does_meet(need: &Need, place: &Place<'_>) -> bool
+pub(crate) fn does_meet(need: &Need, place: &Place<'_>) -> bool
     ensures { IsTrue result ↔ (place.now.name.now ≡ need.now.name → Meets place.now.release.now.version need.now.constraint) }
 {
-    *place.name != need.name || meets(&place.release.version, &need.constraint)
+    meets(&place.release.version, &need.constraint) || *place.name != need.name
 }
 
 /// Whether each need has a version that can be chosen and isn't flagged.

@@ -5,6 +5,7 @@ mod candidates;
 mod conflicts;
 mod dead;
 mod finding;
+mod keys;
 mod laws;
 mod no_solution;
 mod refusing;
@@ -13,8 +14,7 @@ mod rules;
 mod same;
 mod search;
 mod solved;
-#[cfg(test)]
-mod tests;
+mod straight;
 mod universe;
 
 pub use laws::{
@@ -24,5 +24,5 @@ pub use laws::{
 pub use no_solution::NoSolution;
 pub use roots::{Pin, Pins, Roots};
 pub use rules::EnvRules;
-pub use solved::{Solved, solve};
+pub use solved::{Solved, best_pins, solve};
 pub use universe::{Cookbook, Cookbooks, Release, Releases, Universe};

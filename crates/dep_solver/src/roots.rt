@@ -90,19 +90,19 @@ fn has_name(names: &[Name], name: &Name) -> bool
 fn copy_names(alloc: Global, names: &Names) -> Result<Names, NoMemory>
     ensures { IfOk result (λ copies. copies ≡ names.now) }
 {
-    let mut copies = Names::new(alloc);
+    let mut copies = Vec::with_capacity(alloc, names.len())?;
     for name in names.as_slice() {
         copies.push(name.copy(alloc)?)?;
     }
-    Ok(copies)
+    Ok(Names::of(copies))
 }
 
 fn copy_pins(alloc: Global, pins: &Pins) -> Result<Pins, NoMemory>
     ensures { IfOk result (λ copies. copies ≡ pins.now) }
 {
-    let mut copies = Pins::new(alloc);
+    let mut copies = Vec::with_capacity(alloc, pins.len())?;
     for pin in pins.as_slice() {
         copies.push(pin.copy(alloc)?)?;
     }
-    Ok(copies)
+    Ok(Pins::of(copies))
 }

@@ -8,6 +8,7 @@ use crate::dead::never_chosen;
 use crate::finding::{Flags, releases_in};
 use crate::roots::Roots;
 use crate::rules::EnvRules;
+use crate::straight::straight_walk;
 use crate::universe::{Release, Universe};
 use doc_tree::{Name, NoMemory};
 use std::alloc::Global;
@@ -32,8 +33,8 @@ pub(crate) struct Search<'a> {
     pub(crate) given_up: usize,
 }
 
-ghost use Rattle.std.specs.Prelude.{OnOk, IfSome, map, Some, None, slice_get, length, option_map, MatchOption, MatchBool, []};
-ghost use Rattle.dep_solver.specs.Search.{AreNeverChosen, Begins, Chooses, FindsBest, pin_of, GivesUp, IsGreatest, NoneFits, seen};
+ghost use Rattle.std.specs.Prelude.{OnOk, Some, None, slice_get, length, option_map, MatchOption, MatchBool, []};
+ghost use Rattle.dep_solver.specs.Search.{AreNeverChosen, Begins, Chooses, GivesUp, IsGreatest, NoneFits, seen};
 ghost use Rattle.dep_solver.specs.Universes.{releases_in};
 ghost use Rattle.dep_solver.specs.Conflicts.{AreConflicts, IsStuck};
 
@@ -54,26 +55,6 @@ pub(crate) fn best_places<'a>(
     }
     let dead = never_chosen(alloc, universe, rules, roots)?;
     searched(alloc, universe, rules, roots, &dead)
-}
-
-/// The places of the best solution's walk where no choice had to be given up.
-fn straight_walk<'a>(
-    alloc: Global,
-    universe: &'a Universe,
-    rules: &EnvRules,
-    roots: &'a Roots,
-) -> Result<Option<Vec<Place<'a>>>, NoMemory>
-    ensures { IfOk result (λ found. IfSome found (λ places. FindsBest universe.now rules.now roots.now (map pin_of places.items))) }
-{
-    let dead = Flags::new(alloc);
-    let mut search = Search::begin(alloc, roots)?;
-    while let Some(name) = search.next_name() {
-        let Some(place) = search.greatest_place(universe, rules, roots, &dead, name) else {
-            return Ok(None);
-        };
-        search.choose(place)?;
-    }
-    Ok(Some(search.places))
 }
 
 /// The places of the best solution's walk, or `None` exactly where there is no solution, found without the releases that
@@ -102,7 +83,7 @@ fn searched<'a>(
 }
 
 impl<'a> Search<'a> {
-    fn begin(alloc: Global, roots: &'a Roots) -> Result<Search<'a>, NoMemory>
+    pub(crate) fn begin(alloc: Global, roots: &'a Roots) -> Result<Search<'a>, NoMemory>
         ensures { IfOk result (Begins roots.now) }
     {
         Ok(Search {
@@ -113,7 +94,7 @@ impl<'a> Search<'a> {
     }
 
     /// The first name that has no version yet.
-    fn next_name(&self) -> Option<&'a Name>
+    pub(crate) fn next_name(&self) -> Option<&'a Name>
         ensures { option_map (λ name. name.now) result ≡ slice_get (seen self.now.names.items) (length self.now.places.items) }
     {
         self.names.get(self.places.len()).copied()

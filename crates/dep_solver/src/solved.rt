@@ -40,12 +40,7 @@ ghost use Rattle.std.specs.Prelude.{◌≡◌, IfErr, IfOk, Some};
 ghost use Rattle.dep_solver.specs.Chosen.{best_of};
 ghost use Rattle.dep_solver.specs.Refusals.{Refuses, Tells};
 
-/// The best solution: a version for each root and for all that is needed, such that each version meets the pins, the
-/// rules and every need, and at the first place where another solution differs, in the order of the walk, this one has the
-/// greater version. The answer has its own copies of what it was given.
-///
-/// It is `Unsolvable` exactly where there is no solution. It isn't recursive; it may take long where many choices lead
-/// nowhere.
+/// The best solution, with its own copies of what it was given: what [`best_pins`] gives, and its refusals.
 pub fn solve(
     alloc: Global,
     universe: &Universe,
@@ -59,32 +54,47 @@ pub fn solve(
     ensures refusal { IfErr result (Tells universe.now rules.now roots.now) }
     ensures refuses { IfErr result (Refuses universe.now rules.now roots.now) }
 {
+    let chosen = best_pins(alloc, universe, rules, roots)?;
+    Ok(with_copies(alloc, universe, rules, roots, chosen)?)
+}
+
+/// The best solution: a version for each root and for all that is needed, such that each version meets the pins, the
+/// rules and every need, and at the first place where another solution differs, in the order of the walk, this one has the
+/// greater version. It is in the byte order of the chosen names. Nothing of what is asked is copied but the names that are
+/// told.
+///
+/// It is `Unsolvable` exactly where there is no solution. It isn't recursive; it may take long where many choices lead
+/// nowhere.
+pub fn best_pins(
+    alloc: Global,
+    universe: &Universe,
+    rules: &EnvRules,
+    roots: &Roots,
+) -> Result<Pins, NoSolution>
+    ensures chosen { IfOk result (λ pins. best_of universe.now rules.now roots.now ≡ Some pins) }
+    ensures refusal { IfErr result (Tells universe.now rules.now roots.now) }
+    ensures refuses { IfErr result (Refuses universe.now rules.now roots.now) }
+{
     match best_places(alloc, universe, rules, roots)? {
-        Some(places) => with_copies(alloc, universe, rules, roots, &places),
+        Some(places) => Ok(best_in_order(alloc, universe, rules, roots, &places)?),
         None => Err(unsolvable(alloc, universe, rules, roots)?),
     }
 }
 
-ghost use Rattle.dep_solver.specs.Search.{FindsBest, pin_cmp, pin_of};
-ghost use Rattle.std.specs.List.Sorted.{IsPermutation, IsSorted};
-
-// The solution of these places, with its own copies of what it solves.
+// The solution of these pins, with its own copies of what it solves.
 fn with_copies(
     alloc: Global,
     universe: &Universe,
     rules: &EnvRules,
     roots: &Roots,
-    places: &[Place<'_>],
-) -> Result<Solved, NoSolution>
-    requires { FindsBest universe.now rules.now roots.now (map pin_of places.now) }
+    chosen: Pins,
+) -> Result<Solved, NoMemory>
+    requires { best_of universe.now rules.now roots.now ≡ Some chosen }
     ensures universe { IfOk result (λ solved. solved.universe ≡ universe.now) }
     ensures rules { IfOk result (λ solved. solved.rules ≡ rules.now) }
     ensures roots { IfOk result (λ solved. solved.roots ≡ roots.now) }
-    ensures chosen { IfOk result (λ solved. best_of universe.now rules.now roots.now ≡ Some solved.chosen) }
-    ensures refusal { IfErr result (Tells universe.now rules.now roots.now) }
-    ensures refuses { IfErr result (Refuses universe.now rules.now roots.now) }
+    ensures chosen { IfOk result (λ solved. solved.chosen ≡ chosen) }
 {
-    let chosen = in_byte_order(alloc, places)?;
     let universe = universe.copy(alloc)?;
     let rules = rules.copy(alloc)?;
     let roots = roots.copy(alloc)?;
@@ -96,12 +106,30 @@ fn with_copies(
     })
 }
 
+ghost use Rattle.dep_solver.specs.Search.{FindsBest, pin_cmp, pin_of};
+ghost use Rattle.std.specs.List.Sorted.{IsPermutation, IsSorted};
+
+// The solution of these places.
+fn best_in_order(
+    alloc: Global,
+    _universe: &Universe,
+    _rules: &EnvRules,
+    _roots: &Roots,
+    places: &[Place<'_>],
+) -> Result<Pins, NoMemory>
+    requires { FindsBest _universe.now _rules.now _roots.now (map pin_of places.now) }
+    ensures { IfOk result (λ pins. best_of _universe.now _rules.now _roots.now ≡ Some pins) }
+{
+    let chosen = in_byte_order(alloc, places)?;
+    Ok(chosen)
+}
+
 // What was chosen at the places, in the byte order of the names.
 fn in_byte_order(alloc: Global, places: &[Place<'_>]) -> Result<Pins, NoMemory>
     ensures chosen { IfOk result (IsPermutation (map pin_of places.now)) }
     ensures in_order { IfOk result (λ pins. IsSorted pin_cmp pins) }
 {
-    let mut pins = Vec::new(alloc);
+    let mut pins = Vec::with_capacity(alloc, places.len())?;
     for place in places {
         pins.push(Pin {
             name: place.name.copy(alloc)?,

@@ -111,11 +111,13 @@ impl Universe {
     pub fn copy(&self, alloc: Global) -> Result<Universe, NoMemory>
         ensures { IfOk result (λ universe. universe ≡ self.now) }
     {
-        let mut copies = Cookbooks::new(alloc);
+        let mut copies = Vec::with_capacity(alloc, self.cookbooks.len())?;
         for cookbook in self.cookbooks.as_slice() {
             copies.push(cookbook.copy(alloc)?)?;
         }
-        Ok(Universe { cookbooks: copies })
+        Ok(Universe {
+            cookbooks: Cookbooks::of(copies),
+        })
     }
 }
 
@@ -158,19 +160,19 @@ fn do_names_rise(cookbooks: &[Cookbook]) -> bool
 pub(crate) fn copy_needs(alloc: Global, needs: &Needs) -> Result<Needs, NoMemory>
     ensures { IfOk result (λ copies. copies ≡ needs.now) }
 {
-    let mut copies = Needs::new(alloc);
+    let mut copies = Vec::with_capacity(alloc, needs.len())?;
     for need in needs.as_slice() {
         copies.push(need.copy(alloc)?)?;
     }
-    Ok(copies)
+    Ok(Needs::of(copies))
 }
 
 fn copy_releases(alloc: Global, releases: &Releases) -> Result<Releases, NoMemory>
     ensures { IfOk result (λ copies. copies ≡ releases.now) }
 {
-    let mut copies = Releases::new(alloc);
+    let mut copies = Vec::with_capacity(alloc, releases.len())?;
     for release in releases.as_slice() {
         copies.push(release.copy(alloc)?)?;
     }
-    Ok(copies)
+    Ok(Releases::of(copies))
 }

@@ -13,8 +13,6 @@ mod number;
 mod read;
 mod same;
 mod steps;
-#[cfg(test)]
-mod tests;
 mod text;
 mod tree;
 mod trees;

@@ -9,8 +9,6 @@ mod needs;
 mod prefixes;
 mod scanning;
 mod steps;
-#[cfg(test)]
-mod tests;
 mod verdict;
 mod works;
 

@@ -15,8 +15,6 @@ mod paths;
 mod reading;
 mod seen;
 mod spelling;
-#[cfg(test)]
-mod tests;
 mod writing;
 
 pub use caps::Caps;

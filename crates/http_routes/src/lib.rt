@@ -8,8 +8,6 @@ mod parameters;
 mod places;
 mod requests;
 mod targets;
-#[cfg(test)]
-mod tests;
 mod verbs;
 
 pub use bodies::{BodyForm, body_of};

@@ -13,9 +13,6 @@ mod room;
 
 pub use faults::WireFault;
 pub use laws::{one_split, whole_stream};
-pub use replies::{buffer_reply, write_reply};
+pub use replies::{buffer_reply, reply_length, write_reply};
 pub use requests::read_message;
 pub use room::Room;
-
-#[cfg(test)]
-mod tests;

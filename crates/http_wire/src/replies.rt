@@ -51,6 +51,15 @@ pub fn buffer_reply<K: Sink>(
     buffer.write(sink, body)
 }
 
+/// How many bytes a reply has as a message.
+pub fn reply_length(reply: &Reply) -> usize
+    ensures { result ≡ length (spec.reply_text reply.now) }
+{
+    let body = reply.body.as_slice();
+    let head = head_of(reply.status, reply.octets, body.len());
+    head.len() + body.len()
+}
+
 // The status line and the headers of a reply, and the empty line.
 fn head_of(status: u16, octets: bool, size: usize) -> ArrayVec<u8, HEAD>
     ensures { result.items ≡ spec.head_text status octets size }

@@ -6,8 +6,6 @@ mod explaining;
 mod fault;
 mod lines;
 mod sources;
-#[cfg(test)]
-mod tests;
 
 pub use explaining::explain;
 pub use fault::SourcesFault;

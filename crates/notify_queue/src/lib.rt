@@ -5,8 +5,6 @@ mod laws;
 mod links;
 mod pair;
 mod queue;
-#[cfg(test)]
-mod tests;
 
 pub use laws::one_more_first;
 pub use pair::Pair;

@@ -10,8 +10,6 @@ mod objects;
 mod rows;
 mod run_lists;
 mod tables;
-#[cfg(test)]
-mod tests;
 
 pub use fault::FormFault;
 pub use laws::{stored_objects_are_named, stored_objects_read_back};

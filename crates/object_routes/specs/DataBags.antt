@@ -156,5 +156,6 @@ data_rules = record {
   lacks = data_lacks;
   needs = λ context operation. data_needs operation;
   own_refusal = data_refusal;
+  searches = λ context operation. None;
   does = data_does;
 }

@@ -177,5 +177,6 @@ objects_rules collection = record {
   lacks = objects_lacks (kind_in collection);
   needs = λ context operation. objects_needs collection operation;
   own_refusal = objects_refusal collection;
+  searches = λ context operation. None;
   does = objects_does collection;
 }

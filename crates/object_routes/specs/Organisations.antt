@@ -113,5 +113,6 @@ organisation_rules = record {
   lacks = λ context operation. organisation_lacks operation;
   needs = λ context operation. organisation_needs operation;
   own_refusal = organisation_refusal;
+  searches = λ context operation. None;
   does = organisation_does;
 }

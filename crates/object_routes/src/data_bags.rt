@@ -15,11 +15,12 @@ use crate::objects::{lacks_named, listed, name_of, remove, replace, show};
 use crate::operations::DataOperation;
 use access_lists::Container;
 use doc_tree::{Kind, NoMemory, Steps, Text, Tree, is_name};
+use object_finder::Finder;
 use object_store::Key;
 use org_core::{
-    Body, Context, DataRoute, Finder, Group, Lent, Move, Moves, Need, Needs, OrgState, Perm,
-    Prepared, Refusal, Request, Stop, Stored, absent, add_with_list, create_by, joined, key_of,
-    listed_need, named_by, object_in_body, object_named, one_move, org_uri, shown_key, shown_paths,
+    Body, Context, DataRoute, Group, Lent, Move, Moves, Need, Needs, OrgState, Perm, Prepared,
+    Refusal, Request, Stop, Stored, absent, add_with_list, create_by, joined, key_of, listed_need,
+    named_by, object_in_body, object_named, one_move, org_uri, shown_key, shown_paths,
 };
 use route_table::Verb;
 use std::alloc::Global;

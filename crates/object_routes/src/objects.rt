@@ -12,9 +12,10 @@ ghost use Rattle.object_routes.specs.Objects as spec;
 
 use crate::operations::ObjectsOperation;
 use doc_tree::{Kind, NoMemory, Steps, Text, Tree, is_name};
+use object_finder::Finder;
 use object_store::Key;
 use org_core::{
-    Body, Collection, Comer, Context, Finder, Group, Lent, Move, Moves, Need, Needs, ObjectsRoute,
+    Body, Collection, Comer, Context, Group, Lent, Move, Moves, Need, Needs, ObjectsRoute,
     OrgState, Perm, Prepared, Refusal, Request, Stop, Stored, absent, add_with_list, create_by,
     joined, key_of, listed_need, named_by, object_in_body, object_named, one_move, org_uri, shown,
     shown_paths,

@@ -13,8 +13,9 @@ ghost use Rattle.doc_tree.specs.Tree.{doc_of};
 use crate::operations::OrganisationOperation;
 use access_lists::{Container, Group as AGroup, starting_list};
 use doc_tree::{Fields, Kind, NoMemory, Steps, Text, Tree};
+use object_finder::Finder;
 use org_core::{
-    Context, Finder, Group, GroupMembers, Lent, Move, Moves, Need, Needs, OrganisationRoute, Perm,
+    Context, Group, GroupMembers, Lent, Move, Moves, Need, Needs, OrganisationRoute, Perm,
     Prepared, Refusal, Request, Stop, Stored, create_by, key_of, org_uri, shown_key,
 };
 use route_table::Verb;

@@ -10,8 +10,6 @@ mod lists;
 mod objects;
 mod shelves;
 mod shelving;
-#[cfg(test)]
-mod tests;
 
 pub use key::Key;
 pub use objects::Objects;

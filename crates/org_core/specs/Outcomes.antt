@@ -31,14 +31,16 @@ pub record Done : Type 0 where
   pub told : Told
   pub moves : List Move
 
--- how a request is decided: what it does or why it is refused, and how many bodies of objects were looked at
+-- how a request is decided: what it does or why it is refused, how many bodies of objects were looked at, and of how many
+-- objects the index is that a finder searched beside, where one did
 pub record Decided : Type 0 where
   pub answer : Result Done Refusal
   pub looks : ℕ
+  pub searched : Option ℕ
 
 -- something is told, with these moves and looks
 abbrev pub does_by : Told → List Move → ℕ → Decided
-does_by told moves looks = record { answer = Ok (record { told = told; moves = moves }); looks = looks }
+does_by told moves looks = record { answer = Ok (record { told = told; moves = moves }); looks = looks; searched = None }
 
 -- something is told, and nothing was looked at
 abbrev pub tells : Told → Decided
@@ -50,7 +52,20 @@ reads told = does_by told [] 1
 
 -- a refusal, before anything was looked at
 abbrev pub refuse : Refusal → Decided
-refuse refusal = record { answer = Err refusal; looks = 0 }
+refuse refusal = record { answer = Err refusal; looks = 0; searched = None }
+
+-- the same, after a finder searched an index of so many objects, or searched none
+abbrev pub searching : Option ℕ → Decided → Decided
+searching searched decided = record { answer = decided.answer; looks = decided.looks; searched = searched }
+
+-- these looks, and those of a finder that searched an index of so many objects. How many it takes for that, it says itself
+abbrev pub with_search : (ℕ → ℕ) → Option ℕ → ℕ → ℕ
+with_search finder_looks None looks = looks
+with_search finder_looks (Some count) looks = finder_looks count + looks
+
+-- all looks at bodies of objects, the finder's among them
+abbrev pub all_looks : (ℕ → ℕ) → Decided → ℕ
+all_looks finder_looks decided = with_search finder_looks decided.searched decided.looks
 
 -- the refusal, if there is one, or else what was decided
 abbrev pub unless : Option Refusal → Decided → Decided

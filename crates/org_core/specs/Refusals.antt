@@ -1,10 +1,10 @@
 -- What each refusal is answered with, and the first of several refusals.
 use Rattle.std.specs.List.{join_by}
-use Rattle.std.specs.Prelude.{◌≡◌, Bool, cond, ℕ, List, [], ◌∷◌, ◌++◌, map, Option, Some, None, Result, Ok, Err, codes}
+use Rattle.std.specs.Prelude.{◌≡◌, Bool, cond, ℕ, List, [], ◌∷◌, ◌++◌, map, Option, Some, None, Result, Ok, Err, codes, decimal}
 use Rattle.doc_tree.specs.Doc.{Doc, words, list, dict, docs_of, no_docs, pairs_of, then_doc}
 use Rattle.access_lists.specs.Acls.{word_of}
 use Rattle.org_core.specs.declared.refusals.Refusal.{Refusal}
-use Rattle.org_core.specs.declared.refusals.Refusal.TheVariants.{TooLarge, VersionNotTaken, NotImplemented, NotFound, NotAllowed, UnknownCaller, NotJson, TooDeep, NotWhole, BadField, Forbidden, AlreadyExists, MissingChecksums, DigestDiffers, SandboxesAtEnd, BadParameter, Frozen, Unsolvable}
+use Rattle.org_core.specs.declared.refusals.Refusal.TheVariants.{TooLarge, VersionNotTaken, NotImplemented, NotFound, NotAllowed, UnknownCaller, NotJson, TooDeep, NotWhole, BadField, Forbidden, AlreadyExists, MissingChecksums, DigestDiffers, SandboxesAtEnd, BadParameter, BadQuery, Frozen, Unsolvable}
 use Rattle.org_core.specs.declared.refusals.Stop.{Stop}
 use Rattle.org_core.specs.declared.refusals.Stop.TheVariants.{Refused, NoMemory}
 use Rattle.org_core.specs.declared.replies.Reply.{Reply}
@@ -28,6 +28,7 @@ status_of (MissingChecksums sums) = 400
 status_of (DigestDiffers found asked) = 400
 status_of SandboxesAtEnd = 409
 status_of (BadParameter name) = 400
+status_of (BadQuery place) = 400
 status_of Frozen = 409
 status_of (Unsolvable no_cookbook no_version) = 412
 
@@ -71,6 +72,7 @@ body_of (MissingChecksums sums) = error_body (codes "missing checksums: " ++ joi
 body_of (DigestDiffers found asked) = error_body (codes "digest is " ++ (found ++ (codes ", not " ++ asked)))
 body_of SandboxesAtEnd = error_body (codes "sandbox count is at its end")
 body_of (BadParameter name) = error_body (codes "bad parameter " ++ name)
+body_of (BadQuery place) = error_body (codes "bad query at " ++ decimal place)
 body_of Frozen = error_body (codes "frozen")
 body_of (Unsolvable no_cookbook no_version) = error_of (unsolvable_doc no_cookbook no_version)
 

@@ -1,5 +1,5 @@
 -- The rules of a group of routes: all that one group adds to the order of refusals.
-use Rattle.std.specs.Prelude.{Bool, List, Option, Result}
+use Rattle.std.specs.Prelude.{ℕ, Bool, List, Option, Result}
 use Rattle.org_core.specs.declared.needs.Need.{Need}
 use Rattle.org_core.specs.declared.refusals.Refusal.{Refusal}
 use Rattle.org_core.specs.declared.requests.Request.{Request}
@@ -16,5 +16,7 @@ pub record Rules (Route Operation : Type 0) : Type 0 where
   pub needs : Context → Operation → List Need
   -- the first refusal of the group's own that stands
   pub own_refusal : Context → Operation → Option Refusal
+  -- of how many objects the index is that a finder searches for it, where one does
+  pub searches : Context → Operation → Option ℕ
   -- what is done where nothing refuses it. A refusal that takes work to find may be found here
   pub does : Context → Operation → Decided

@@ -6,6 +6,7 @@ ghost use Rattle.org_core.specs.Requests as requests;
 use crate::org_state::OrgState;
 use dep_solver::Solved;
 use doc_tree::Text;
+use object_finder::Finder;
 use sandboxes::Files;
 
 /// The organisation's name, the caller, the organisation's state and its files: every part of a rule sees
@@ -22,20 +23,11 @@ pub struct Context<'c> {
     pub files: &'c Files,
 }
 
-/// What finds the objects that a query matches. No operation searches yet, so it has no calls.
-pub trait Finder {}
-
-/// The finder of a site that can't search.
-#[derive(Clone, Copy, Debug)]
-pub struct NoFinder;
-
-impl Finder for NoFinder {}
-
 /// All that an operation is lent beside its context. No group names what it doesn't use, and nothing here
 /// changes what an operation comes to.
 #[derive(Drop)]
 pub struct Lent<'l, F: Finder> {
-    /// What finds objects.
+    /// What finds the objects that a query matches. It is exact for the organisation's state.
     pub finder: &'l F,
     /// A solution that was found beforehand, which saves a search where it is of the very same universe, rules
     /// and roots.

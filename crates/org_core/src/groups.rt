@@ -1,18 +1,19 @@
 //! What a group of routes is: its routes, its operations, and the rules by which these are decided.
 
 ghost use Rattle.std.specs.Prelude.{◌≡◌, IfOk};
-ghost use Rattle.org_core.specs.Contexts.{seen};
-ghost use Rattle.org_core.specs.Outcomes.{Finds, Looked};
+ghost use Rattle.org_core.specs.Contexts.{IsExactIn, seen};
+ghost use Rattle.org_core.specs.Outcomes.{Finds, Looked, with_search};
 ghost use Rattle.org_core.specs.Refusals.{Tells};
 ghost use Rattle.org_core.specs.Rules.{Rules};
 
-use crate::contexts::{Context, Finder, Lent};
+use crate::contexts::{Context, Lent};
 use crate::moves::Moves;
 use crate::needs::Needs;
 use crate::refusals::{Refusal, Stop};
 use crate::replies::Reply;
 use crate::requests::Request;
 use doc_tree::{NoMemory, Steps};
+use object_finder::Finder;
 use std::alloc::Global;
 use std::sync::ledger::Ledger;
 
@@ -76,7 +77,8 @@ pub trait Group {
     ) -> Result<Option<Refusal>, NoMemory>
         ensures { IfOk result (λ o. o ≡ (rules self.now).own_refusal (seen context.entry) operation.now) };
 
-    /// What an operation does that nothing refuses. Each body of an object that it looks at is one step.
+    /// What an operation does that nothing refuses. Each body of an object that it looks at is one step, and so is
+    /// each that the finder looks at for it.
     fn does<F: Finder, L: Ledger>(
         &self,
         alloc: Global,
@@ -85,6 +87,7 @@ pub trait Group {
         operation: Self::Operation,
         steps: &mut Steps<L>,
     ) -> Result<Prepared, Stop>
+        requires exact { IsExactIn (F.held lent.now.finder.now) (seen context) }
         ensures done { Finds result ((rules self.now).does (seen context.entry) operation).answer }
-        ensures looked { Looked result ((rules self.now).does (seen context.entry) operation).looks steps.old steps.new };
+        ensures looked { Looked result (with_search (F.looks lent.now.finder.now) ((rules self.now).searches (seen context.entry) operation) ((rules self.now).does (seen context.entry) operation).looks) steps.old steps.new };
 }

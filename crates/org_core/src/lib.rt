@@ -27,7 +27,7 @@ pub use access_lists::Perm;
 pub use bodies::{absent, document_in, object_in_body, object_named};
 pub use collections::Collection;
 pub use comers::Comer;
-pub use contexts::{Context, Finder, Lent, NoFinder, is_operator};
+pub use contexts::{Context, Lent, is_operator};
 pub use cookbook_moves::{CookbookMove, Cookbooks, is_named};
 pub use creating::{add_with_list, create_by, created_list};
 pub use file_moves::{FileMove, is_complete};

@@ -72,6 +72,13 @@ impl OrgState {
         }
     }
 
+    /// The organisation's name, also where it isn't there. It takes no memory.
+    pub fn name(&self) -> &Text
+        ensures { result.now ≡ self.now.name }
+    {
+        &self.org
+    }
+
     /// Whether the organisation is there. It takes no memory.
     pub fn is_there(&self) -> bool
         ensures { result ≡ is_some (state_in self.now) }

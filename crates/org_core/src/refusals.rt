@@ -10,6 +10,7 @@ use crate::replies::{Reply, with_key};
 use access_lists::Perm;
 use doc_tree::{Bytes, Fields, Name, Names, NoMemory, Text, Tree, Trees};
 use http::StatusCode;
+use itoa::Buffer;
 use sandboxes::{Checksum, Sums};
 use std::alloc::Global;
 
@@ -53,6 +54,8 @@ pub enum Refusal {
     SandboxesAtEnd,
     /// 400: this parameter of the query hasn't its form.
     BadParameter(Text),
+    /// 400: the parameter `q` of a search spells no query. So many bytes of it are the longest front that begins one.
+    BadQuery(usize),
     /// 409: the cookbook version is frozen.
     Frozen,
     /// 412: no set of cookbook versions meets the run list. Both lists are of its cookbooks, in the order of
@@ -129,6 +132,7 @@ impl Refusal {
                 b"{\"error\":[\"sandbox count is at its end\"]}",
             )),
             Refusal::BadParameter(name) => bad_parameter(alloc, &name),
+            Refusal::BadQuery(place) => bad_query(alloc, place),
             Refusal::Frozen => Ok(refused(StatusCode::CONFLICT, b"{\"error\":[\"frozen\"]}")),
             Refusal::Unsolvable {
                 no_cookbook,
@@ -178,6 +182,15 @@ fn bad_parameter(alloc: Global, name: &Text) -> Result<Reply, NoMemory>
 {
     let mut words = String::from_str(alloc, "bad parameter ")?;
     words.push_str(name.as_str())?;
+    bad_request_of(alloc, words)
+}
+
+fn bad_query(alloc: Global, place: usize) -> Result<Reply, NoMemory>
+    ensures { IfOk result (λ reply. reply ≡ spec.reply_to (Refusal.BadQuery place)) }
+{
+    let mut digits = Buffer::new();
+    let mut words = String::from_str(alloc, "bad query at ")?;
+    words.push_str(digits.format(place))?;
     bad_request_of(alloc, words)
 }
 

@@ -11,7 +11,7 @@ use Rattle.org_core.specs.Outcomes.{Decided, unless}
 use Rattle.org_core.specs.Refusals.{refuses}
 use Rattle.org_core.specs.Rules.{Rules}
 use Rattle.org_core.specs.States.{State}
-use Rattle.org_machine.specs.Order.{permitted, found, by_operation, answered_by}
+use Rattle.org_machine.specs.Order.{done_by, permitted, found, by_operation, answered_by}
 
 -- a refusal changes nothing, and where none stands what was decided leads to a state that meets the conditions
 pub unless_keeps : (state : State) (refusal : Option Refusal) (done : Decided) → MeetsConditions state → (refusal ≡ None → LeadsToConditions state done) → LeadsToConditions state (unless refusal done)
@@ -29,7 +29,7 @@ module _ {Route Operation : Type 0} where
   by_operation_keeps Asks rules keeps context route request (Ok operation) meets asks is =
       unless_keeps context.state (refuses NotFound (rules.lacks context operation)) (found rules context operation) meets
       (λ there. unless_keeps context.state (lacking context (rules.needs context operation)) (permitted rules context operation) meets
-      (λ _. unless_keeps context.state (rules.own_refusal context operation) (rules.does context operation) meets
+      (λ _. unless_keeps context.state (rules.own_refusal context operation) (done_by rules context operation) meets
       (λ free. keeps context route request operation meets asks is (not_refused NotFound (rules.lacks context operation) there) free)))
 
   -- what is decided at a route of a group that keeps the conditions keeps them

@@ -36,9 +36,11 @@ use Rattle.object_routes.proofs.VersionlessLemmas.{data_put_none, objects_put_no
 use Rattle.object_routes.specs.DataBags.{data_rules}
 use Rattle.object_routes.specs.Objects.{objects_rules}
 use Rattle.object_routes.specs.Organisations.{organisation_rules}
+use Rattle.search_routes.proofs.SearchLemmas.{searches_put_none}
+use Rattle.search_routes.specs.SearchRules.{search_rules}
 use Rattle.org_machine.specs.Heads.{head_refusal}
 use Rattle.org_machine.specs.Marks.{Mark, served, short, down, after, own_name}
-use Rattle.org_machine.specs.Order.{absence_refusal, permitted, found, by_operation, answered_by}
+use Rattle.org_machine.specs.Order.{absence_refusal, done_by, permitted, found, by_operation, answered_by}
 use Rattle.org_machine.specs.Steps.{asks_for_organisation, at_organisations, at_place, at_route, context, step}
 
 -- what was decided leads from these files to files that meet their conditions
@@ -56,7 +58,7 @@ module _ {Route Operation : Type 0} where
   by_operation_files rules keeps context route request (Ok operation) meets is =
       unless_files context.org (full_of context) (refuses NotFound (rules.lacks context operation)) (found rules context operation) meets
       (λ _. unless_files context.org (full_of context) (lacking context (rules.needs context operation)) (permitted rules context operation) meets
-      (λ _. unless_files context.org (full_of context) (rules.own_refusal context operation) (rules.does context operation) meets
+      (λ _. unless_files context.org (full_of context) (rules.own_refusal context operation) (done_by rules context operation) meets
       (λ free. keeps context route request operation meets is free)))
 
   answered_files : (rules : Rules Route Operation) → KeepsFileConditions rules → (context : Context) (route : Route) (request : Request) → MeetsFileConditions (full_of context)
@@ -75,7 +77,7 @@ at_route_files context (Data route) request meets = answered_files data_rules (v
 at_route_files context (Access route) request meets = answered_files access_rules (versionless_keeps access_rules access_puts_none) context route request meets
 at_route_files context (Cookbooks route) request meets = answered_files cookbook_rules cookbooks_keep_files context route request meets
 at_route_files context (Policies route) request meets = meets
-at_route_files context (Search route) request meets = meets
+at_route_files context (Search route) request meets = answered_files search_rules (versionless_keeps search_rules searches_put_none) context route request meets
 
 at_organisations_files : (state : FullState) (caller : Option (List ℕ)) (verb : Verb) (body : Body) → MeetsFileConditions state → LeadsTo [] state (at_organisations caller verb body)
 at_organisations_files state caller Get body meets = unless_files [] state (lacking (context [] caller none) (Operator permission.Read ∷ [])) (tells (shows (dict no_pairs))) meets (λ _. meets)

@@ -28,6 +28,8 @@ use Rattle.object_routes.proofs.KeepingLemmas.{organisations_keep, objects_keep,
 use Rattle.object_routes.specs.DataBags.{data_rules}
 use Rattle.object_routes.specs.Objects.{objects_rules}
 use Rattle.object_routes.specs.Organisations.{organisation_rules}
+use Rattle.search_routes.proofs.SearchLemmas.{searches_keep}
+use Rattle.search_routes.specs.SearchRules.{search_rules}
 use Rattle.org_machine.proofs.AnsweredLemmas.{unless_keeps, answered_keeps}
 use Rattle.org_machine.specs.Heads.{head_refusal}
 use Rattle.org_machine.specs.Marks.{Mark, served, short, down, after}
@@ -54,7 +56,7 @@ at_route_keeps context (Data route) request meets free = answered_keeps Someone 
 at_route_keeps context (Access route) request meets free = answered_keeps Someone access_rules access_keep context route request meets (known_at (Access route) context free refl)
 at_route_keeps context (Cookbooks route) request meets free = answered_keeps Someone cookbook_rules cookbooks_keep context route request meets (known_at (Cookbooks route) context free refl)
 at_route_keeps context (Policies route) request meets free = meets
-at_route_keeps context (Search route) request meets free = meets
+at_route_keeps context (Search route) request meets free = answered_keeps Someone search_rules searches_keep context route request meets (known_at (Search route) context free refl)
 
 organisations_keep_it : (state : FullState) (caller : Option (List ℕ)) (verb : Verb) (body : Body) → MeetsConditions state.state → LeadsToConditions state.state (at_organisations caller verb body)
 organisations_keep_it state caller Get body meets = unless_keeps state.state (lacking (context [] caller none) (Operator permission.Read ∷ [])) (tells (shows (dict no_pairs))) meets (λ _. meets)

@@ -2,6 +2,8 @@ pub mod AnsweredLemmas
 pub mod Going
 pub mod KeepingLemmas
 pub mod FileKeepingLemmas
+pub mod FindingLemmas
+pub mod PairOrderLemmas
 pub mod OrderlyLemmas
 pub mod OutsideLemmas
 pub mod PreparedLemmas

@@ -30,8 +30,10 @@ use Rattle.object_routes.proofs.OrderlyLemmas.{organisations_orderly, objects_or
 use Rattle.object_routes.specs.DataBags.{data_rules}
 use Rattle.object_routes.specs.Objects.{objects_rules}
 use Rattle.object_routes.specs.Organisations.{organisation_rules}
+use Rattle.search_routes.proofs.SearchLemmas.{searches_orderly}
+use Rattle.search_routes.specs.SearchRules.{search_rules}
 use Rattle.org_machine.specs.Heads.{head_refusal}
-use Rattle.org_machine.specs.Order.{absence_refusal, permitted, found, by_operation, answered_by}
+use Rattle.org_machine.specs.Order.{absence_refusal, done_by, permitted, found, by_operation, answered_by}
 use Rattle.org_machine.specs.Steps.{at_route, asks_for_organisation, context, at_organisations, at_place, decided}
 
 -- a refusal makes no move
@@ -45,7 +47,7 @@ module _ {Route Operation : Type 0} where
   by_operation_orderly rules orderly context (Ok operation) =
       unless_orderly (refuses NotFound (rules.lacks context operation)) (found rules context operation)
       (unless_orderly (lacking context (rules.needs context operation)) (permitted rules context operation)
-      (unless_orderly (rules.own_refusal context operation) (rules.does context operation) (orderly context operation)))
+      (unless_orderly (rules.own_refusal context operation) (done_by rules context operation) (orderly context operation)))
 
   answered_orderly : (rules : Rules Route Operation) → IsOrderlyGroup rules → (context : Context) (route : Route) (request : Request) → MakesOrderly (answered_by rules context route request)
   answered_orderly rules orderly context route request = by_operation_orderly rules orderly context (rules.operation context route request)
@@ -58,7 +60,7 @@ at_route_orderly context (Data route) request = answered_orderly data_rules data
 at_route_orderly context (Access route) request = answered_orderly access_rules access_orderly context route request
 at_route_orderly context (Cookbooks route) request = answered_orderly cookbook_rules cookbooks_orderly context route request
 at_route_orderly context (Policies route) request = refl
-at_route_orderly context (Search route) request = refl
+at_route_orderly context (Search route) request = answered_orderly search_rules searches_orderly context route request
 
 organisations_orderly_too : (caller : Option (List ℕ)) (verb : Verb) (body : Body) → MakesOrderly (at_organisations caller verb body)
 organisations_orderly_too caller Get body = unless_orderly (lacking (context [] caller none) (Operator permission.Read ∷ [])) (tells (shows (dict no_pairs))) refl

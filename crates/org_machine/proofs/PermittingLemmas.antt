@@ -14,7 +14,7 @@ use Rattle.route_table.specs.declared.verbs.Verb.TheVariants.{Get, Post, Put, De
 use Rattle.org_core.specs.declared.needs.Need.{Need}
 use Rattle.org_core.specs.declared.needs.Need.TheVariants.{Operator, Listed}
 use Rattle.org_core.specs.declared.refusals.Refusal.{Refusal}
-use Rattle.org_core.specs.declared.refusals.Refusal.TheVariants.{TooLarge, VersionNotTaken, NotImplemented, NotFound, NotAllowed, UnknownCaller, NotJson, TooDeep, NotWhole, BadField, Forbidden, AlreadyExists, MissingChecksums, DigestDiffers, SandboxesAtEnd, BadParameter, Frozen, Unsolvable}
+use Rattle.org_core.specs.declared.refusals.Refusal.TheVariants.{TooLarge, VersionNotTaken, NotImplemented, NotFound, NotAllowed, UnknownCaller, NotJson, TooDeep, NotWhole, BadField, Forbidden, AlreadyExists, MissingChecksums, DigestDiffers, SandboxesAtEnd, BadParameter, BadQuery, Frozen, Unsolvable}
 use Rattle.org_core.specs.declared.replies.Reply.{Reply}
 use Rattle.org_core.specs.declared.requests.Body.{Body}
 use Rattle.org_core.specs.declared.requests.Place.{Place}
@@ -33,6 +33,8 @@ use Rattle.org_core.specs.Requests.{is_operator}
 use Rattle.org_core.specs.Rules.{Rules}
 use Rattle.org_core.specs.FullStates.{FullState}
 use Rattle.org_core.specs.States.{list_in, membership_of}
+use Rattle.search_routes.proofs.PlainLemmas.{searches_never_forbid}
+use Rattle.search_routes.specs.SearchRules.{search_rules}
 use Rattle.org_machine.specs.Permitting.{IsListed, IsPermitted, LacksOne, IsForbiddenBy, IsForbiddenAt, IsForbiddenIn, IsForbidden}
 use Rattle.access_routes.proofs.PlainLemmas.{access_never_forbids}
 use Rattle.access_routes.specs.AccessRules.{access_rules}
@@ -45,7 +47,7 @@ use Rattle.object_routes.specs.Organisations.{organisation_rules}
 use Rattle.org_machine.specs.Alone.{Exchange, RunsAlone, asked_in, replies_alone}
 use Rattle.org_machine.specs.Heads.{head_refusal, is_taken, is_not_built, is_no_route, lacks_method}
 use Rattle.org_machine.specs.Marks.{mark_of, after, answer}
-use Rattle.org_machine.specs.Order.{absence_refusal, permitted, found, operated, by_operation, answered_by}
+use Rattle.org_machine.specs.Order.{absence_refusal, done_by, permitted, found, operated, by_operation, answered_by}
 use Rattle.org_machine.specs.Permitting.{IsForbiddenListing, IsPermittedExactly, ArePermittedExactly}
 use Rattle.org_machine.specs.Steps.{at_route, asks_for_organisation, context, unnamed, listed, at_organisations, at_place, step}
 
@@ -76,6 +78,7 @@ plain_is_not (MissingChecksums sums) plain is = not_403 400 refl is
 plain_is_not (DigestDiffers found asked) plain is = not_403 400 refl is
 plain_is_not SandboxesAtEnd plain is = not_403 409 refl is
 plain_is_not (BadParameter name) plain is = not_403 400 refl is
+plain_is_not (BadQuery place) plain is = not_403 400 refl is
 plain_is_not Frozen plain is = not_403 409 refl is
 plain_is_not (Unsolvable no_cookbook no_version) plain is = not_403 412 refl is
 plain_is_not (Forbidden permission) plain is = plain
@@ -177,7 +180,7 @@ module _ {Route Operation : Type 0} where
   permitted_is_not : (rules : Rules Route Operation) → NeverForbids rules → (context : Context) (operation : Operation) → Is403 (permitted rules context operation) → ⊥
   permitted_is_not rules never context operation is =
       answer_is_not (rules.does context operation).answer (never.does context operation)
-      ((unless_403 (rules.own_refusal context operation) (rules.does context operation) (never.own_refusal context operation)).0 is).1
+      ((unless_403 (rules.own_refusal context operation) (done_by rules context operation) (never.own_refusal context operation)).0 is).1
 
   found_403 : (rules : Rules Route Operation) → NeverForbids rules → (context : Context) (operation : Operation) (first : Option Refusal) → lacking context (rules.needs context operation) ≡ first
       → Is403 (unless first (permitted rules context operation)) ↔ LacksOne context (rules.needs context operation)
@@ -222,7 +225,7 @@ at_route_403 context (Data route) request = answered_403 data_rules data_never_f
 at_route_403 context (Access route) request = answered_403 access_rules access_never_forbids context route request
 at_route_403 context (Cookbooks route) request = answered_403 cookbook_rules cookbooks_never_forbid context route request
 at_route_403 context (Policies route) request = ((λ is. not_403 501 refl is), (λ none. absurd none))
-at_route_403 context (Search route) request = ((λ is. not_403 501 refl is), (λ none. absurd none))
+at_route_403 context (Search route) request = answered_403 search_rules searches_never_forbid context route request
 
 -- ---- what stands before
 

@@ -3,11 +3,11 @@ use Rattle.std.proofs.Common.{◌≡◌, ◌+◌, ◌⊎◌, ℕ, List, [], Resu
 use Rattle.org_core.specs.declared.groups.Prepared.{Prepared}
 use Rattle.org_core.specs.declared.moves.Move.{Move}
 use Rattle.org_core.specs.declared.refusals.Refusal.{Refusal}
-use Rattle.org_core.specs.declared.refusals.Refusal.TheVariants.{TooLarge, VersionNotTaken, NotImplemented, NotFound, NotAllowed, UnknownCaller, NotJson, TooDeep, NotWhole, BadField, Forbidden, AlreadyExists, MissingChecksums, DigestDiffers, SandboxesAtEnd, BadParameter, Frozen, Unsolvable}
+use Rattle.org_core.specs.declared.refusals.Refusal.TheVariants.{TooLarge, VersionNotTaken, NotImplemented, NotFound, NotAllowed, UnknownCaller, NotJson, TooDeep, NotWhole, BadField, Forbidden, AlreadyExists, MissingChecksums, DigestDiffers, SandboxesAtEnd, BadParameter, BadQuery, Frozen, Unsolvable}
 use Rattle.org_core.specs.declared.requests.Request.{Request}
 use Rattle.org_core.specs.FileMoves.{after_all}
 use Rattle.org_core.specs.Rooms.{HasRoom}
-use Rattle.org_core.specs.Outcomes.{Told, shows, makes, gives, Done, Decided, Finds, reply_of, outcome_of, LooksAtMost}
+use Rattle.org_core.specs.Outcomes.{Told, shows, makes, gives, Done, Decided, Finds, all_looks, reply_of, outcome_of, LooksAtMost}
 use Rattle.org_core.specs.Refusals.{reply_to, out_of_memory}
 use Rattle.access_lists.specs.Rooms as groups
 use Rattle.object_store.specs.Objects.{Store}
@@ -15,6 +15,7 @@ use Rattle.org_core.specs.FullStates.{FullState}
 use Rattle.org_core.specs.States.{Kept, Shelved}
 use Rattle.org_machine.specs.Marks.{mark_of, served, short, own_name, answer, after, IsLawful}
 use Rattle.org_machine.specs.Serving.{IsGood, ComesWith, Does, Looks}
+use Rattle.org_machine.specs.declared.serving.Ready.{Ready}
 use Rattle.org_machine.specs.Steps.{decided, step, looks}
 
 -- what is told of an operation is served
@@ -41,6 +42,7 @@ refusal_is_served (MissingChecksums sums) = refl
 refusal_is_served (DigestDiffers found asked) = refl
 refusal_is_served SandboxesAtEnd = refl
 refusal_is_served (BadParameter name) = refl
+refusal_is_served (BadQuery place) = refl
 refusal_is_served Frozen = refl
 refusal_is_served (Unsolvable no_cookbook no_version) = refl
 
@@ -71,13 +73,13 @@ pub no_moves : (request : Request) (state : FullState) → (IsGood (step request
 no_moves request state bad = unless_good _ _ (comes_with (decided request state).answer) bad
 
 -- what holds of a prepared request
-pub record IsPrepared (prepared : Prepared) (request : Request) (state : FullState) (kept : Kept) (spare before now : ℕ) : Type 0 where
+pub record IsPrepared (finder_looks : ℕ → ℕ) (prepared : Ready) (request : Request) (state : FullState) (kept : Kept) (spare before now : ℕ) : Type 0 where
   pub reply : prepared.reply ≡ answer (mark_of prepared.reply) request state
   pub lawful : IsLawful (mark_of prepared.reply) request state
   pub moves : after_all (own_name request) prepared.moves state ≡ after (mark_of prepared.reply) request state
   pub made : ComesWith prepared.reply.status prepared.moves
   pub room : HasRoom prepared.moves kept.objects kept.groups kept.cookbooks spare
-  pub looks : Looks prepared.reply request state before now
+  pub looks : Looks finder_looks prepared.reply request state before now
 
 -- it took just the looks of the step, and so at most these
 exactly : (before now count : ℕ) → now ≡ before + count → LooksAtMost count before now
@@ -90,9 +92,9 @@ no_room_needed moves store members cookbooks spare none =
 short≢served : short ≡ served → ⊥
 short≢served same = cc
 
-pub is_prepared : (prepared : Prepared) (request : Request) (state : FullState) (kept : Kept) (spare before now : ℕ)
-    → Does prepared (decided request state) kept spare before now → IsPrepared prepared request state kept spare before now
-is_prepared prepared request state kept spare before now (inl p) =
+pub is_prepared : (finder_looks : ℕ → ℕ) (prepared : Ready) (request : Request) (state : FullState) (kept : Kept) (spare before now : ℕ)
+    → Does finder_looks prepared (decided request state) kept spare before now → IsPrepared finder_looks prepared request state kept spare before now
+is_prepared finder_looks prepared request state kept spare before now (inl p) =
     let mark : mark_of prepared.reply ≡ served = ap mark_of p.reply ∙ step_is_served request state in
     record {
       reply = p.reply ∙ ap (λ m. answer m request state) (sym mark);
@@ -102,9 +104,9 @@ is_prepared prepared request state kept spare before now (inl p) =
           subst (λ ms. ComesWith prepared.reply.status ms) (sym p.moves)
           (subst (λ r. ComesWith r.status (step request state).moves) (sym p.reply) (comes_with (decided request state).answer));
       room = p.room;
-      looks = record { exact = λ _. p.looked; most = exactly before now (looks request state) p.looked };
+      looks = record { exact = λ _. p.looked; most = exactly before now (looks finder_looks request state) p.looked };
     }
-is_prepared prepared request state kept spare before now (inr p) =
+is_prepared finder_looks prepared request state kept spare before now (inr p) =
     let mark : mark_of prepared.reply ≡ short = ap mark_of p.reply in
     record {
       reply = p.reply ∙ ap (λ m. answer m request state) (sym mark);
@@ -122,11 +124,11 @@ found_is_due prepared (Ok done) found = found
 found_is_due prepared (Err refusal) found = absurd found
 
 -- what was found is done with room for it, or told as want of memory
-pub found_with_room : (prepared result : Prepared) (due : Decided) (kept : Kept) (spare before now : ℕ)
-    → Finds (Ok prepared) due.answer → now ≡ before + due.looks → HasRoom result.moves kept.objects kept.groups kept.cookbooks spare
-    → (result ≡ prepared) ⊎ ((result.reply ≡ out_of_memory) × (result.moves ≡ [])) → Does result due kept spare before now
-found_with_room prepared result due kept spare before now found looked room (inl same) =
+pub found_with_room : (finder_looks : ℕ → ℕ) (prepared : Prepared) (result : Ready) (due : Decided) (kept : Kept) (spare before now : ℕ)
+    → Finds (Ok prepared) due.answer → now ≡ before + all_looks finder_looks due → HasRoom result.moves kept.objects kept.groups kept.cookbooks spare
+    → ((result.reply ≡ prepared.reply) × (result.moves ≡ prepared.moves)) ⊎ ((result.reply ≡ out_of_memory) × (result.moves ≡ [])) → Does finder_looks result due kept spare before now
+found_with_room finder_looks prepared result due kept spare before now found looked room (inl same) =
     let is = found_is_due prepared due.answer found in
-    inl (record { reply = ap (λ (p : Prepared). p.reply) same ∙ is.0; moves = ap (λ (p : Prepared). p.moves) same ∙ is.1; room = room; looked = looked })
-found_with_room prepared result due kept spare before now found looked room (inr lost) =
-    inr (record { reply = lost.0; moves = lost.1; looked = exactly before now due.looks looked })
+    inl (record { reply = same.0 ∙ is.0; moves = same.1 ∙ is.1; room = room; looked = looked })
+found_with_room finder_looks prepared result due kept spare before now found looked room (inr lost) =
+    inr (record { reply = lost.0; moves = lost.1; looked = exactly before now (all_looks finder_looks due) looked })

@@ -4,4 +4,5 @@ pub mod Steps
 pub mod Marks
 pub mod Alone
 pub mod Serving
+pub mod Finding
 pub mod Permitting

@@ -5,7 +5,7 @@ use Rattle.org_core.specs.declared.refusals.Refusal.TheVariants.{NotFound, Unkno
 use Rattle.org_core.specs.declared.requests.Request.{Request}
 use Rattle.org_core.specs.Contexts.{Context}
 use Rattle.org_core.specs.Needs.{is_known, lacking}
-use Rattle.org_core.specs.Outcomes.{Decided, unless, refuse}
+use Rattle.org_core.specs.Outcomes.{Decided, unless, refuse, searching}
 use Rattle.org_core.specs.Refusals.{refuses, first_some}
 use Rattle.org_core.specs.Rules.{Rules}
 
@@ -21,9 +21,13 @@ abbrev pub absence_refusal : Bool → Context → Option Refusal
 absence_refusal asks_for_it context = first_some (absence_refusals asks_for_it context)
 
 module _ {Route Operation : Type 0} where
+  -- what the group does, and which index is searched for it
+  abbrev pub done_by : Rules Route Operation → Context → Operation → Decided
+  done_by rules context operation = searching (rules.searches context operation) (rules.does context operation)
+
   -- the caller may do it: what the group itself refuses, in the order of the table of routes
   abbrev pub permitted : Rules Route Operation → Context → Operation → Decided
-  permitted rules context operation = unless (rules.own_refusal context operation) (rules.does context operation)
+  permitted rules context operation = unless (rules.own_refusal context operation) (done_by rules context operation)
 
   -- the object is there: 403 where a permission is missing
   abbrev pub found : Rules Route Operation → Context → Operation → Decided

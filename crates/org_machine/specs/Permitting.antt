@@ -24,6 +24,7 @@ use Rattle.cookbook_routes.specs.CookbookRules.{cookbook_rules}
 use Rattle.object_routes.specs.DataBags.{data_rules}
 use Rattle.object_routes.specs.Objects.{objects_rules}
 use Rattle.object_routes.specs.Organisations.{organisation_rules}
+use Rattle.search_routes.specs.SearchRules.{search_rules}
 use Rattle.org_machine.specs.Alone.{Exchange}
 use Rattle.org_machine.specs.Heads.{head_refusal}
 use Rattle.org_machine.specs.Marks.{mark_of, served, after}
@@ -60,7 +61,7 @@ IsForbiddenAt context (Data route) request = IsForbiddenBy data_rules context ro
 IsForbiddenAt context (Access route) request = IsForbiddenBy access_rules context route request
 IsForbiddenAt context (Cookbooks route) request = IsForbiddenBy cookbook_rules context route request
 IsForbiddenAt context (Policies route) request = ⊥
-IsForbiddenAt context (Search route) request = ⊥
+IsForbiddenAt context (Search route) request = IsForbiddenBy search_rules context route request
 
 -- anybody but the operator may not list the organisations
 abbrev pub IsForbiddenListing : Verb → Option (List ℕ) → Type 0

@@ -1,15 +1,15 @@
 -- What serving one request does: to what is kept of its organisation, and to the states of all.
 use Rattle.std.specs.Prelude.{◌≡◌, ◌+◌, ◌⊎◌, if◌then◌else◌, ℕ, List, [], Option, Some, None}
-use Rattle.org_core.specs.declared.groups.Prepared.{Prepared}
 use Rattle.org_core.specs.declared.moves.Move.{Move}
 use Rattle.org_core.specs.declared.replies.Reply.{Reply}
 use Rattle.org_core.specs.declared.requests.Request.{Request}
 use Rattle.org_core.specs.Requests.{org_of, is_of}
 use Rattle.org_core.specs.Rooms.{HasRoom}
-use Rattle.org_core.specs.Outcomes.{Decided, outcome_of, LooksAtMost}
+use Rattle.org_core.specs.Outcomes.{Decided, all_looks, outcome_of, LooksAtMost}
 use Rattle.org_core.specs.Refusals.{out_of_memory}
 use Rattle.org_core.specs.FullStates.{FullState}
 use Rattle.org_core.specs.States.{Kept}
+use Rattle.org_machine.specs.declared.serving.Ready.{Ready}
 use Rattle.org_machine.specs.Steps.{looks}
 use Rattle.org_machine.specs.Marks.{mark_of, served, answer, after, IsLawful}
 use Rattle.org_machine.specs.Alone.{Exchange, Alone, States, OutsideAnswer, states_after}
@@ -26,28 +26,29 @@ ComesWith status moves = (moves ≡ []) ⊎ IsGood status
 abbrev pub IsOrShort : Reply → Reply → Type 0
 IsOrShort reply due = (reply ≡ due) ⊎ (reply ≡ out_of_memory)
 
--- what was prepared is what was decided; there is room for its moves, among the files for so many more, and it took
--- all its looks
-pub record IsDue (prepared : Prepared) (due : Decided) (kept : Kept) (spare before now : ℕ) : Type 0 where
-  pub reply : prepared.reply ≡ (outcome_of due.answer).reply
-  pub moves : prepared.moves ≡ (outcome_of due.answer).moves
-  pub room : HasRoom prepared.moves kept.objects kept.groups kept.cookbooks spare
-  pub looked : now ≡ before + due.looks
+-- what is ready is what was decided; there is room for its moves, among the files for so many more, and it took all its
+-- looks
+pub record IsDue (finder_looks : ℕ → ℕ) (ready : Ready) (due : Decided) (kept : Kept) (spare before now : ℕ) : Type 0 where
+  pub reply : ready.reply ≡ (outcome_of due.answer).reply
+  pub moves : ready.moves ≡ (outcome_of due.answer).moves
+  pub room : HasRoom ready.moves kept.objects kept.groups kept.cookbooks spare
+  pub looked : now ≡ before + all_looks finder_looks due
 
--- what was prepared tells of want of memory and makes no move, after some of the looks
-pub record IsShort (prepared : Prepared) (due : Decided) (before now : ℕ) : Type 0 where
-  pub reply : prepared.reply ≡ out_of_memory
-  pub moves : prepared.moves ≡ []
-  pub looked : LooksAtMost due.looks before now
+-- what is ready tells of want of memory and makes no move, after some of the looks
+pub record IsShort (finder_looks : ℕ → ℕ) (ready : Ready) (due : Decided) (before now : ℕ) : Type 0 where
+  pub reply : ready.reply ≡ out_of_memory
+  pub moves : ready.moves ≡ []
+  pub looked : LooksAtMost (all_looks finder_looks due) before now
 
 -- one of both
-abbrev pub Does : Prepared → Decided → Kept → ℕ → ℕ → ℕ → Type 0
-Does prepared due kept spare before now = IsDue prepared due kept spare before now ⊎ IsShort prepared due before now
+abbrev pub Does : (ℕ → ℕ) → Ready → Decided → Kept → ℕ → ℕ → ℕ → Type 0
+Does finder_looks ready due kept spare before now = IsDue finder_looks ready due kept spare before now ⊎ IsShort finder_looks ready due before now
 
--- a request that is served looks at just the bodies that its step says, and any other at no more
-pub record Looks (reply : Reply) (request : Request) (state : FullState) (before now : ℕ) : Type 0 where
-  pub exact : mark_of reply ≡ served → now ≡ before + looks request state
-  pub most : LooksAtMost (looks request state) before now
+-- a request that is served looks at just the bodies that its step says, the finder's looks among them, and any other at
+-- no more
+pub record Looks (finder_looks : ℕ → ℕ) (reply : Reply) (request : Request) (state : FullState) (before now : ℕ) : Type 0 where
+  pub exact : mark_of reply ≡ served → now ≡ before + looks finder_looks request state
+  pub most : LooksAtMost (looks finder_looks request state) before now
 
 -- a request of an organisation is answered from its state, and its mark is lawful there
 abbrev pub OwnAnswer : States → Option (List ℕ) → Request → Reply → Type 0

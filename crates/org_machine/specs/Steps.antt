@@ -19,13 +19,14 @@ use Rattle.org_core.specs.declared.routes.Route.TheVariants.{Organisation, Objec
 use Rattle.org_core.specs.Bodies.{document_in}
 use Rattle.org_core.specs.Contexts.{Context}
 use Rattle.org_core.specs.Needs.{lacking}
-use Rattle.org_core.specs.Outcomes.{Decided, Outcome, shows, tells, refuse, unless, outcome_of}
+use Rattle.org_core.specs.Outcomes.{Decided, Outcome, all_looks, shows, tells, refuse, unless, outcome_of}
 use Rattle.org_core.specs.FullStates.{FullState, none}
 use Rattle.access_routes.specs.AccessRules.{access_rules}
 use Rattle.cookbook_routes.specs.CookbookRules.{cookbook_rules}
 use Rattle.object_routes.specs.DataBags.{data_rules}
 use Rattle.object_routes.specs.Objects.{objects_rules}
 use Rattle.object_routes.specs.Organisations.{organisation_rules}
+use Rattle.search_routes.specs.SearchRules.{search_rules}
 use Rattle.org_machine.specs.Heads.{head_refusal}
 use Rattle.org_machine.specs.Order.{absence_refusal, answered_by}
 
@@ -37,7 +38,7 @@ at_route context (Data route) request = answered_by data_rules context route req
 at_route context (Access route) request = answered_by access_rules context route request
 at_route context (Cookbooks route) request = answered_by cookbook_rules context route request
 at_route context (Policies route) request = refuse NotImplemented
-at_route context (Search route) request = refuse NotImplemented
+at_route context (Search route) request = answered_by search_rules context route request
 
 -- what is created needn't be there
 abbrev pub asks_for_whole : OrganisationRoute → Bool
@@ -96,6 +97,6 @@ decided request state = unless (head_refusal request) (at_place request.place re
 abbrev pub step : Request → FullState → Outcome
 step request state = outcome_of (decided request state).answer
 
--- how many bodies of objects it looks at
-abbrev pub looks : Request → FullState → ℕ
-looks request state = (decided request state).looks
+-- how many bodies of objects it looks at, with those that the finder looks at to search an index of so many objects
+abbrev pub looks : (ℕ → ℕ) → Request → FullState → ℕ
+looks finder_looks request state = all_looks finder_looks (decided request state)

@@ -1,15 +1,15 @@
 //! The order of refusals behind the head, once for every route, over the rules of its group.
 
 ghost use Rattle.std.specs.Prelude.{◌≡◌, IfOk};
-ghost use Rattle.org_core.specs.Contexts.{seen};
+ghost use Rattle.org_core.specs.Contexts.{IsExactIn, seen};
 ghost use Rattle.org_core.specs.Needs as permissions;
-ghost use Rattle.org_core.specs.Outcomes.{Finds, Looked};
+ghost use Rattle.org_core.specs.Outcomes.{Finds, Looked, all_looks};
 ghost use Rattle.org_machine.specs.Order as spec;
 
 use doc_tree::{NoMemory, Steps};
+use object_finder::Finder;
 use org_core::{
-    Context, Finder, Group, Lent, Prepared, Refusal, Request, Stop, first_lacking, is_known,
-    is_operator,
+    Context, Group, Lent, Prepared, Refusal, Request, Stop, first_lacking, is_known, is_operator,
 };
 use std::alloc::Global;
 use std::sync::ledger::Ledger;
@@ -38,8 +38,9 @@ pub(crate) fn answered_by<G: Group, F: Finder, L: Ledger>(
     request: &Request,
     steps: &mut Steps<L>,
 ) -> Result<Prepared, Stop>
+    requires exact { IsExactIn (F.held lent.now.finder.now) (seen context) }
     ensures done { Finds result (spec.answered_by (G.rules group.now) (seen context.entry) route.now request.now).answer }
-    ensures looked { Looked result (spec.answered_by (G.rules group.now) (seen context.entry) route.now request.now).looks steps.old steps.new }
+    ensures looked { Looked result (all_looks (F.looks lent.now.finder.now) (spec.answered_by (G.rules group.now) (seen context.entry) route.now request.now)) steps.old steps.new }
 {
     let operation = group.operation(alloc, context, lent, route, request)?;
     operated(alloc, group, context, lent, operation, steps)
@@ -54,8 +55,9 @@ fn operated<G: Group, F: Finder, L: Ledger>(
     operation: G::Operation,
     steps: &mut Steps<L>,
 ) -> Result<Prepared, Stop>
+    requires exact { IsExactIn (F.held lent.now.finder.now) (seen context) }
     ensures done { Finds result (spec.operated (G.rules group.now) (seen context.entry) operation).answer }
-    ensures looked { Looked result (spec.operated (G.rules group.now) (seen context.entry) operation).looks steps.old steps.new }
+    ensures looked { Looked result (all_looks (F.looks lent.now.finder.now) (spec.operated (G.rules group.now) (seen context.entry) operation)) steps.old steps.new }
 {
     if group.lacks(alloc, context, lent, &operation)? {
         return Err(Stop::Refused(Refusal::NotFound));
@@ -72,8 +74,9 @@ fn found<G: Group, F: Finder, L: Ledger>(
     operation: G::Operation,
     steps: &mut Steps<L>,
 ) -> Result<Prepared, Stop>
+    requires exact { IsExactIn (F.held lent.now.finder.now) (seen context) }
     ensures done { Finds result (spec.found (G.rules group.now) (seen context.entry) operation).answer }
-    ensures looked { Looked result (spec.found (G.rules group.now) (seen context.entry) operation).looks steps.old steps.new }
+    ensures looked { Looked result (all_looks (F.looks lent.now.finder.now) (spec.found (G.rules group.now) (seen context.entry) operation)) steps.old steps.new }
 {
     match lacking(alloc, group, context, lent, &operation)? {
         Some(refusal) => Err(Stop::Refused(refusal)),
@@ -107,8 +110,9 @@ fn permitted<G: Group, F: Finder, L: Ledger>(
     operation: G::Operation,
     steps: &mut Steps<L>,
 ) -> Result<Prepared, Stop>
+    requires exact { IsExactIn (F.held lent.now.finder.now) (seen context) }
     ensures done { Finds result (spec.permitted (G.rules group.now) (seen context.entry) operation).answer }
-    ensures looked { Looked result (spec.permitted (G.rules group.now) (seen context.entry) operation).looks steps.old steps.new }
+    ensures looked { Looked result (all_looks (F.looks lent.now.finder.now) (spec.permitted (G.rules group.now) (seen context.entry) operation)) steps.old steps.new }
 {
     match group.own_refusal(alloc, context, lent, &operation)? {
         Some(refusal) => Err(Stop::Refused(refusal)),

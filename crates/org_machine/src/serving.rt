@@ -1,52 +1,71 @@
 //! Serving one request on one organisation: `prepare` finds the reply and takes all the memory that
 //! the moves need, and `settle` makes the moves, which can't fail.
 
-ghost use Rattle.std.specs.Prelude.{◌≡◌, ◌⊎◌, [], Some};
+ghost use Rattle.std.specs.Prelude.{◌≡◌, ◌⊎◌, [], IfOk, OnOk, Some, is_some};
+ghost use Rattle.object_finder.specs.Changes.{HasRoomFor};
+ghost use Rattle.object_finder.specs.Exact.{HoldsOthers, IsExact};
 ghost use Rattle.org_core.specs.Conditions.{MeetsConditions};
 ghost use Rattle.org_core.specs.FileMoves.{after_all};
 ghost use Rattle.org_core.specs.FullStates.{full_in, MeetsFileConditions};
 ghost use Rattle.org_core.specs.Moves.{IsOrderly, after_moves};
 ghost use Rattle.org_core.specs.Rooms.{HasRoom};
 ghost use Rattle.sandboxes.specs.Files.{OthersStay, spare_of};
-ghost use Rattle.org_core.specs.Outcomes.{Finds, Looked};
+ghost use Rattle.org_core.specs.Outcomes.{Finds, Looked, all_looks};
 ghost use Rattle.org_core.specs.Refusals as refusals;
 ghost use Rattle.org_core.specs.Requests.{org_of};
-ghost use Rattle.org_core.specs.States.{state_in};
+ghost use Rattle.org_core.specs.States.{objects_of, state_in};
+ghost use Rattle.org_machine.specs.Finding.{AreChanges};
 ghost use Rattle.org_machine.specs.Marks.{mark_of, own_name, answer, after, IsLawful};
 ghost use Rattle.org_machine.specs.Permitting.{IsPermittedExactly};
 ghost use Rattle.org_machine.specs.Serving.{ComesWith, Does, IsGood, IsOrShort, Looks};
 ghost use Rattle.org_machine.specs.Steps as spec;
 
+use crate::finding::changes_with_room;
 use crate::heads::head_refusal;
 use crate::steps::within;
 use dep_solver::Solved;
 use doc_tree::{NoMemory, Steps};
+use object_finder::{Changes, Finder, make_changes};
 use org_core::{
-    Context, Lent, Moves, NoFinder, OrgState, Place, Prepared, Refusal, Reply, Request, Stop,
-    out_of_memory,
+    Context, Lent, Moves, OrgState, Place, Prepared, Refusal, Reply, Request, Stop, out_of_memory,
 };
 use sandboxes::Files;
 use std::alloc::Global;
 use std::sync::ledger::Ledger;
 
-/// Finds the reply to a request, and takes all the memory for the moves that it makes. State and files
-/// stay as they were, with room made; the files of every other organisation stay with all that they
-/// have. Where memory is wanting the reply is 500, with no move. Each object whose body is looked at or
-/// replaced is one step.
+/// What `prepare` made ready: the reply to a request, and all that the request changes, with memory taken for it.
+#[derive(Drop)]
+pub struct Ready {
+    /// The reply.
+    pub reply: Reply,
+    /// What changes of the state and the files: nothing unless the reply is 200 or 201.
+    pub moves: Moves,
+    /// What changes of that which the finder holds.
+    pub changes: Changes,
+}
+
+/// Finds the reply to a request, and takes all the memory for the moves that it makes. State, files and
+/// what the finder holds stay as they were, with room made; the files of every other organisation stay with
+/// all that they have. Where memory is wanting the reply is 500, with no move. Each object whose body is
+/// looked at or replaced is one step, and so is each that the finder looks at.
+///
+/// The finder holds the pairs of the state's objects and no others, or nothing at all.
 ///
 /// The hint is a solution that was found beforehand. Where the request asks for the versions of cookbooks
 /// and the hint is of the very same universe, rules and roots, it saves the search. The reply is the same
 /// with it or without.
-pub fn prepare<L: Ledger>(
+pub fn prepare<F: Finder, L: Ledger>(
     alloc: Global,
     state: &mut OrgState,
     files: &mut Files,
     request: &Request,
     hint: Option<Solved>,
+    finder: &mut F,
     steps: &mut Steps<L>,
-) -> Prepared
+) -> Ready
     requires of { org_of request.now ≡ Some state.old.name }
     requires files { MeetsFileConditions (full_in state.old files.old) }
+    requires exact { IsExact (F.held finder.old) state.old.name (objects_of (state_in state.old)) }
     ensures name { state.new.name ≡ state.old.name }
     ensures same { full_in state.new files.new ≡ full_in state.old files.old }
     ensures others { OthersStay state.old.name files.old files.new }
@@ -60,65 +79,80 @@ pub fn prepare<L: Ledger>(
     // And so do its files, both as they are and as the moves leave them.
     ensures files { MeetsFileConditions (full_in state.new files.new) }
     ensures files_then { MeetsFileConditions (after_all state.new.name result.moves (full_in state.new files.new)) }
-    ensures looks { Looks result.reply request.now (full_in state.old files.old) steps.old steps.new }
+    // What the finder holds is as it was. The changes are those of the moves, and it has room for them.
+    ensures held { F.held finder.new ≡ F.held finder.old }
+    ensures finder_looks { F.looks finder.new ≡ F.looks finder.old }
+    ensures changes { AreChanges (F.held finder.new) state.new.name (is_some (state_in state.new)) result.moves result.changes }
+    ensures finder_room { HasRoomFor (F.room finder.new) result.changes }
+    ensures looks { Looks (F.looks finder.old) result.reply request.now (full_in state.old files.old) steps.old steps.new }
 {
     state.meets_conditions();
-    prepare_step(alloc, state, files, request, hint.as_ref(), steps)
+    prepare_step(alloc, state, files, request, hint.as_ref(), finder, steps)
 }
 
 // What the step decides, with room for it, or want of memory.
-fn prepare_step<L: Ledger>(
+fn prepare_step<F: Finder, L: Ledger>(
     alloc: Global,
     state: &mut OrgState,
     files: &mut Files,
     request: &Request,
     hint: Option<&Solved>,
+    finder: &mut F,
     steps: &mut Steps<L>,
-) -> Prepared
-    requires { org_of request.now ≡ Some state.old.name }
+) -> Ready
+    requires of { org_of request.now ≡ Some state.old.name }
+    requires exact { IsExact (F.held finder.old) state.old.name (objects_of (state_in state.old)) }
     ensures name { state.new.name ≡ state.old.name }
     ensures same { full_in state.new files.new ≡ full_in state.old files.old }
     ensures others { OthersStay state.old.name files.old files.new }
-    ensures done { Does result (spec.decided request.now (full_in state.old files.old)) state.new (spare_of files.new state.new.name) steps.old steps.new }
+    ensures done { Does (F.looks finder.old) result (spec.decided request.now (full_in state.old files.old)) state.new (spare_of files.new state.new.name) steps.old steps.new }
+    ensures held { F.held finder.new ≡ F.held finder.old }
+    ensures finder_looks { F.looks finder.new ≡ F.looks finder.old }
+    ensures changes { AreChanges (F.held finder.new) state.new.name (is_some (state_in state.new)) result.moves result.changes }
+    ensures finder_room { HasRoomFor (F.room finder.new) result.changes }
 {
-    match decided(alloc, state, files, request, hint, steps) {
-        Ok(prepared) => with_room(alloc, state, files, prepared),
+    match decided(alloc, state, files, request, hint, finder, steps) {
+        Ok(prepared) => with_room(alloc, state, files, finder, prepared),
         Err(Stop::Refused(refusal)) => stays(alloc, told(alloc, refusal)),
         Err(Stop::NoMemory) => stays(alloc, out_of_memory()),
     }
 }
 
 // Decides a request of the organisation whose state this is.
-fn decided<L: Ledger>(
+fn decided<F: Finder, L: Ledger>(
     alloc: Global,
     state: &OrgState,
     files: &Files,
     request: &Request,
     hint: Option<&Solved>,
+    finder: &F,
     steps: &mut Steps<L>,
 ) -> Result<Prepared, Stop>
-    requires { org_of request.now ≡ Some state.now.name }
+    requires of { org_of request.now ≡ Some state.now.name }
+    requires exact { IsExact (F.held finder.now) state.now.name (objects_of (state_in state.now)) }
     ensures done { Finds result (spec.decided request.now (full_in state.now files.now)).answer }
-    ensures looked { Looked result (spec.decided request.now (full_in state.now files.now)).looks steps.old steps.new }
+    ensures looked { Looked result (all_looks (F.looks finder.now) (spec.decided request.now (full_in state.now files.now))) steps.old steps.new }
 {
     match head_refusal(request) {
         Some(refusal) => Err(Stop::Refused(refusal)),
-        None => decided_within(alloc, state, files, request, hint, steps),
+        None => decided_within(alloc, state, files, request, hint, finder, steps),
     }
 }
 
 // The head refuses nothing.
-fn decided_within<L: Ledger>(
+fn decided_within<F: Finder, L: Ledger>(
     alloc: Global,
     state: &OrgState,
     files: &Files,
     request: &Request,
     hint: Option<&Solved>,
+    finder: &F,
     steps: &mut Steps<L>,
 ) -> Result<Prepared, Stop>
-    requires { org_of request.now ≡ Some state.now.name }
+    requires of { org_of request.now ≡ Some state.now.name }
+    requires exact { IsExact (F.held finder.now) state.now.name (objects_of (state_in state.now)) }
     ensures done { Finds result (spec.at_place request.now.place request.now (full_in state.now files.now)).answer }
-    ensures looked { Looked result (spec.at_place request.now.place request.now (full_in state.now files.now)).looks steps.old steps.new }
+    ensures looked { Looked result (all_looks (F.looks finder.now) (spec.at_place request.now.place request.now (full_in state.now files.now))) steps.old steps.new }
 {
     match &request.place {
         Place::Of { org, route } => {
@@ -129,10 +163,7 @@ fn decided_within<L: Ledger>(
                 state,
                 files,
             };
-            let lent = Lent {
-                finder: &NoFinder,
-                hint,
-            };
+            let lent = Lent { finder, hint };
             within(alloc, context, &lent, route, request, steps)
         }
         Place::Organisations | Place::LeftOut | Place::NoRoute | Place::NoMemory => unreachable!(),
@@ -140,28 +171,67 @@ fn decided_within<L: Ledger>(
 }
 
 // Makes room for all the moves, or tells of want of memory.
-fn with_room(alloc: Global, state: &mut OrgState, files: &mut Files, prepared: Prepared) -> Prepared
+fn with_room<F: Finder>(
+    alloc: Global,
+    state: &mut OrgState,
+    files: &mut Files,
+    finder: &mut F,
+    prepared: Prepared,
+) -> Ready
     requires { IsOrderly prepared.moves }
     ensures name { state.new.name ≡ state.old.name }
     ensures same { full_in state.new files.new ≡ full_in state.old files.old }
     ensures others { OthersStay state.old.name files.old files.new }
     ensures room { HasRoom result.moves state.new.objects state.new.groups state.new.cookbooks (spare_of files.new state.new.name) }
-    ensures done { (result ≡ prepared) ⊎ ((result.reply ≡ refusals.out_of_memory) × (result.moves ≡ [])) }
+    ensures done { ((result.reply ≡ prepared.reply) × (result.moves ≡ prepared.moves)) ⊎ ((result.reply ≡ refusals.out_of_memory) × (result.moves ≡ [])) }
+    ensures held { F.held finder.new ≡ F.held finder.old }
+    ensures finder_looks { F.looks finder.new ≡ F.looks finder.old }
+    ensures changes { AreChanges (F.held finder.new) state.new.name (is_some (state_in state.new)) result.moves result.changes }
+    ensures finder_room { HasRoomFor (F.room finder.new) result.changes }
 {
-    match state.reserve(alloc, files, &prepared.moves) {
-        Ok(()) => prepared,
+    let Prepared { reply, moves } = prepared;
+    match room_made(alloc, state, files, finder, &moves) {
+        Ok(changes) => Ready {
+            reply,
+            moves,
+            changes,
+        },
         Err(NoMemory) => stays(alloc, out_of_memory()),
     }
 }
 
+// Makes room for all the moves, and the changes that they are for the finder.
+fn room_made<F: Finder>(
+    alloc: Global,
+    state: &mut OrgState,
+    files: &mut Files,
+    finder: &mut F,
+    moves: &Moves,
+) -> Result<Changes, NoMemory>
+    requires { IsOrderly moves.now }
+    ensures name { state.new.name ≡ state.old.name }
+    ensures same { full_in state.new files.new ≡ full_in state.old files.old }
+    ensures others { OthersStay state.old.name files.old files.new }
+    ensures room { OnOk result (HasRoom moves.now state.new.objects state.new.groups state.new.cookbooks (spare_of files.new state.new.name)) }
+    ensures held { F.held finder.new ≡ F.held finder.old }
+    ensures finder_looks { F.looks finder.new ≡ F.looks finder.old }
+    ensures changes { IfOk result (λ changes. AreChanges (F.held finder.new) state.new.name (is_some (state_in state.new)) moves.now changes) }
+    ensures finder_room { IfOk result (λ changes. HasRoomFor (F.room finder.new) changes) }
+{
+    state.reserve(alloc, files, moves)?;
+    changes_with_room(alloc, finder, state, moves.as_slice())
+}
+
 // A reply that makes no move.
-fn stays(alloc: Global, reply: Reply) -> Prepared
+fn stays(alloc: Global, reply: Reply) -> Ready
     ensures reply { result.reply ≡ reply }
     ensures moves { result.moves ≡ [] }
+    ensures changes { result.changes ≡ [] }
 {
-    Prepared {
+    Ready {
         reply,
         moves: Moves::new(alloc),
+        changes: Changes::new(alloc),
     }
 }
 
@@ -175,35 +245,55 @@ pub(crate) fn told(alloc: Global, refusal: Refusal) -> Reply
     }
 }
 
-/// Makes the moves of a request that was prepared for this state and these files, and hands on its
-/// reply. The files of every other organisation stay. It takes no memory and can't fail.
-pub fn settle(state: &mut OrgState, files: &mut Files, prepared: Prepared) -> Reply
-    requires room { HasRoom prepared.moves state.old.objects state.old.groups state.old.cookbooks (spare_of files.old state.old.name) }
-    requires conditions { MeetsConditions (after_moves prepared.moves (state_in state.old)) }
-    requires files { MeetsFileConditions (after_all state.old.name prepared.moves (full_in state.old files.old)) }
-    ensures reply { result ≡ prepared.reply }
+/// Makes the moves of a request that was prepared for this state, these files and this finder, and hands on its
+/// reply. The files of every other organisation stay, and what the finder holds of it. It takes no memory and
+/// can't fail.
+pub fn settle<F: Finder>(
+    state: &mut OrgState,
+    files: &mut Files,
+    ready: Ready,
+    finder: &mut F,
+) -> Reply
+    requires room { HasRoom ready.moves state.old.objects state.old.groups state.old.cookbooks (spare_of files.old state.old.name) }
+    requires conditions { MeetsConditions (after_moves ready.moves (state_in state.old)) }
+    requires files { MeetsFileConditions (after_all state.old.name ready.moves (full_in state.old files.old)) }
+    requires exact { IsExact (F.held finder.old) state.old.name (objects_of (state_in state.old)) }
+    requires changes { AreChanges (F.held finder.old) state.old.name (is_some (state_in state.old)) ready.moves ready.changes }
+    requires finder_room { HasRoomFor (F.room finder.old) ready.changes }
+    ensures reply { result ≡ ready.reply }
     ensures name { state.new.name ≡ state.old.name }
-    ensures state { full_in state.new files.new ≡ after_all state.old.name prepared.moves (full_in state.old files.old) }
+    ensures state { full_in state.new files.new ≡ after_all state.old.name ready.moves (full_in state.old files.old) }
     ensures files { MeetsFileConditions (full_in state.new files.new) }
     ensures others { OthersStay state.old.name files.old files.new }
+    ensures exact { IsExact (F.held finder.new) state.new.name (objects_of (state_in state.new)) }
+    ensures held_of_others { HoldsOthers state.old.name (F.held finder.old) (F.held finder.new) }
+    ensures finder_looks { F.looks finder.new ≡ F.looks finder.old }
 {
-    let Prepared { reply, moves } = prepared;
+    let Ready {
+        reply,
+        moves,
+        changes,
+    } = ready;
+    make_changes(finder, changes);
     state.make_all(files, moves);
     reply
 }
 
 /// Serves one request: `prepare` with this hint, and `settle`. A reply other than 200 and 201 leaves state and
-/// files as they were, and each leaves the files of every other organisation.
-pub fn serve<L: Ledger>(
+/// files as they were, and each leaves the files of every other organisation. The finder is exact for the state
+/// afterwards, too, and holds of every other organisation what it held.
+pub fn serve<F: Finder, L: Ledger>(
     alloc: Global,
     state: &mut OrgState,
     files: &mut Files,
     request: &Request,
     hint: Option<Solved>,
+    finder: &mut F,
     steps: &mut Steps<L>,
 ) -> Reply
     requires of { org_of request.now ≡ Some state.old.name }
     requires files { MeetsFileConditions (full_in state.old files.old) }
+    requires exact { IsExact (F.held finder.old) state.old.name (objects_of (state_in state.old)) }
     ensures name { state.new.name ≡ state.old.name }
     ensures reply { result ≡ answer (mark_of result) request.now (full_in state.old files.old) }
     ensures lawful { IsLawful (mark_of result) request.now (full_in state.old files.old) }
@@ -213,8 +303,11 @@ pub fn serve<L: Ledger>(
     ensures stays { ¬ (IsGood result.status) → full_in state.new files.new ≡ full_in state.old files.old }
     // 403 exactly where nothing before refuses, and a permission that is needed isn't permitted.
     ensures permitted { IsPermittedExactly request.now result (full_in state.old files.old) }
-    ensures looks { Looks result request.now (full_in state.old files.old) steps.old steps.new }
+    ensures exact { IsExact (F.held finder.new) state.new.name (objects_of (state_in state.new)) }
+    ensures held_of_others { HoldsOthers state.old.name (F.held finder.old) (F.held finder.new) }
+    ensures finder_looks { F.looks finder.new ≡ F.looks finder.old }
+    ensures looks { Looks (F.looks finder.old) result request.now (full_in state.old files.old) steps.old steps.new }
 {
-    let prepared = prepare(alloc, state, files, request, hint, steps);
-    settle(state, files, prepared)
+    let ready = prepare(alloc, state, files, request, hint, finder, steps);
+    settle(state, files, ready, finder)
 }

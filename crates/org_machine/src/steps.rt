@@ -3,19 +3,20 @@
 
 ghost use Rattle.std.specs.Prelude.{◌≡◌, IfOk};
 ghost use Rattle.org_core.specs.Bodies as bodies;
-ghost use Rattle.org_core.specs.Contexts.{seen};
-ghost use Rattle.org_core.specs.Outcomes.{Finds, Looked};
+ghost use Rattle.org_core.specs.Contexts.{IsExactIn, seen};
+ghost use Rattle.org_core.specs.Outcomes.{Finds, Looked, all_looks};
 ghost use Rattle.org_machine.specs.Steps as spec;
 
 use crate::order::{absence_refusal, answered_by};
 use access_routes::Access;
 use cookbook_routes::Cookbooks;
 use doc_tree::{NoMemory, Steps, Text};
+use object_finder::Finder;
 use object_routes::{DataBags, Organisations, PlainObjects};
 use org_core::{
-    Body, Context, Finder, Lent, OrganisationRoute, Prepared, Refusal, Request, Route, Stop,
-    document_in,
+    Body, Context, Lent, OrganisationRoute, Prepared, Refusal, Request, Route, Stop, document_in,
 };
+use search_routes::Searches;
 use std::alloc::Global;
 use std::sync::ledger::Ledger;
 
@@ -28,8 +29,9 @@ pub(crate) fn within<F: Finder, L: Ledger>(
     request: &Request,
     steps: &mut Steps<L>,
 ) -> Result<Prepared, Stop>
+    requires exact { IsExactIn (F.held lent.now.finder.now) (seen context) }
     ensures done { Finds result (spec.within (seen context.entry) route.now request.now).answer }
-    ensures looked { Looked result (spec.within (seen context.entry) route.now request.now).looks steps.old steps.new }
+    ensures looked { Looked result (all_looks (F.looks lent.now.finder.now) (spec.within (seen context.entry) route.now request.now)) steps.old steps.new }
 {
     match absence_refusal(asks_for_organisation(route), context) {
         Some(refusal) => Err(Stop::Refused(refusal)),
@@ -53,8 +55,9 @@ fn at_route<F: Finder, L: Ledger>(
     request: &Request,
     steps: &mut Steps<L>,
 ) -> Result<Prepared, Stop>
+    requires exact { IsExactIn (F.held lent.now.finder.now) (seen context) }
     ensures done { Finds result (spec.at_route (seen context.entry) route.now request.now).answer }
-    ensures looked { Looked result (spec.at_route (seen context.entry) route.now request.now).looks steps.old steps.new }
+    ensures looked { Looked result (all_looks (F.looks lent.now.finder.now) (spec.at_route (seen context.entry) route.now request.now)) steps.old steps.new }
 {
     match route {
         Route::Organisation(route) => {
@@ -71,7 +74,10 @@ fn at_route<F: Finder, L: Ledger>(
         Route::Cookbooks(route) => {
             answered_by(alloc, &Cookbooks, context, lent, route, request, steps)
         }
-        Route::Policies(_) | Route::Search(_) => Err(Stop::Refused(Refusal::NotImplemented)),
+        Route::Search(route) => {
+            answered_by(alloc, &Searches, context, lent, route, request, steps)
+        }
+        Route::Policies(_) => Err(Stop::Refused(Refusal::NotImplemented)),
     }
 }
 

@@ -17,6 +17,3 @@ pub use memory_source::{MemSource, NeverFailingSource};
 pub use sink::Sink;
 pub use source::Source;
 pub use standard::{Reading, Writing};
-
-#[cfg(test)]
-mod tests;

@@ -7,8 +7,6 @@ mod fault;
 mod file_disk;
 mod listing;
 mod memory_disk;
-#[cfg(test)]
-mod tests;
 mod walk;
 
 pub use disk::Disk;

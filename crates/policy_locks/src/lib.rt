@@ -14,10 +14,6 @@ mod put;
 mod reading;
 mod source;
 mod stored;
-#[cfg(test)]
-mod test_rows;
-#[cfg(test)]
-mod tests;
 
 pub use digests::revision_id;
 pub use fault::LockFault;

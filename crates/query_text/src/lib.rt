@@ -10,8 +10,6 @@ mod query;
 mod read;
 mod signs;
 mod term;
-#[cfg(test)]
-mod tests;
 
 pub use fault::QueryFault;
 pub use laws::one_query;

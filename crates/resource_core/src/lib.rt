@@ -16,8 +16,6 @@ mod plans;
 mod recipes;
 mod resources;
 mod templates;
-#[cfg(test)]
-mod tests;
 mod types;
 mod values;
 

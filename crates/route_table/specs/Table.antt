@@ -148,8 +148,8 @@ policies =
 -- searches
 abbrev pub searches : List Route
 searches =
-    route (within (fixed (codes "search") ∷ [])) SearchIndexes (get later ∷ [])
-    ∷ route (within (fixed (codes "search") ∷ any ∷ [])) Search (get later ∷ post later ∷ [])
+    route (within (fixed (codes "search") ∷ [])) SearchIndexes (get built ∷ [])
+    ∷ route (within (fixed (codes "search") ∷ any ∷ [])) Search (get built ∷ post built ∷ [])
     ∷ []
 
 -- the whole table

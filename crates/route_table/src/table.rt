@@ -106,8 +106,8 @@ pub static ROUTES: [Row; 60] = [
     row!("/organizations/{org}/policy_groups" => PolicyGroups [Get: LATER]),
     row!("/organizations/{org}/policy_groups/{group}" => PolicyGroup [Get: LATER, Delete: LATER]),
     row!("/organizations/{org}/policy_groups/{group}/policies/{policy}" => Assignment [Get: LATER, Put: LATER, Delete: LATER]),
-    row!("/organizations/{org}/search" => SearchIndexes [Get: LATER]),
-    row!("/organizations/{org}/search/{index}" => Search [Get: LATER, Post: LATER]),
+    row!("/organizations/{org}/search" => SearchIndexes [Get: BUILT]),
+    row!("/organizations/{org}/search/{index}" => Search [Get: BUILT, Post: BUILT]),
 ];
 
 /// What marked methods say of a method: by the first of them that it is.

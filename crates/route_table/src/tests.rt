@@ -50,7 +50,7 @@ const METHODS: &str = "/organizations => GET built, POST built
 /organizations/acme/data/b/_acl => GET built
 /organizations/acme/policies/p/_acl/read => PUT built
 /organizations/acme/files/1 => GET built, PUT built
-/organizations/acme/search/node => GET later, POST later
+/organizations/acme/search/node => GET built, POST built
 /organizations/acme/nowhere => none
 ";
 

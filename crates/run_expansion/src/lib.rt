@@ -8,8 +8,6 @@ mod laws;
 mod listing;
 mod reading;
 mod roles;
-#[cfg(test)]
-mod tests;
 mod walk;
 
 pub use expansion::{Expansion, RecipeNames, expand};

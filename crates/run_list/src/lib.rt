@@ -6,8 +6,6 @@ mod items;
 mod laws;
 mod names;
 mod spelling;
-#[cfg(test)]
-mod tests;
 
 pub use fault::ItemFault;
 pub use items::{Item, Items, read_item};

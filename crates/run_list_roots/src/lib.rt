@@ -3,8 +3,6 @@
 
 mod asking;
 mod reading;
-#[cfg(test)]
-mod tests;
 
 pub use asking::{names_a_role, roots_of};
 pub use reading::{recipes_of, run_list_of};

@@ -10,8 +10,6 @@ mod maps;
 mod part;
 mod stored;
 mod sums;
-#[cfg(test)]
-mod tests;
 
 pub use checksum::{Checksum, read_checksum};
 pub use fault::{Refused, SandFault};

@@ -1,5 +1,5 @@
 -- Between which terms those with a value that is wanted lie.
-use Rattle.std.proofs.Common.{◌≡◌, ◌≢◌, ◌∙◌, ◌&&◌, ℕ, Bool, true, false, List, [], ◌∷◌, ◌++◌, Option, Some, None, Result, Ok, Err, IfOk, if◌then◌else◌, eqb, eqb-true, refl, sym, ap}
+use Rattle.std.proofs.Common.{◌≡◌, ◌≢◌, ◌∙◌, ◌&&◌, ◌+◌, arith, inl, inr, ℕ, Bool, true, false, List, [], ◌∷◌, ◌++◌, Option, Some, None, Result, Ok, Err, IfOk, if◌then◌else◌, eqb, eqb-true, refl, sym, ap}
 use Rattle.std.proofs.lemmas.Bool.{false≢true}
 use Rattle.std.proofs.lemmas.List.{append-nil}
 use Rattle.std.specs.declared.cmp.Ordering.TheVariants.{Less, Equal, Greater}
@@ -14,7 +14,7 @@ use Rattle.query_text.specs.declared.term.Sign.TheVariants.{Any, One, Byte}
 use Rattle.search_query.specs.Pair.{Pair, pair, pair_cmp}
 use Rattle.search_query.specs.Matching.{Fits, IsWanted, is_above, is_before, is_below, one_off}
 use Rattle.search_index.specs.declared.bounds.Bounds.{Bounds}
-use Rattle.search_index.specs.Bounds.{IsBounded, front_of, is_plain, low_of}
+use Rattle.search_index.specs.Bounds.{HoldsFront, IsBounded, front_of, is_plain, low_of}
 use Rattle.search_index.proofs.Neighbours.{same_is_equal, then_right}
 
 same_text : (t : List ℕ) → slice_cmp nat_cmp t t ≡ Equal
@@ -93,6 +93,24 @@ bounded_plain field signs b plain one two three = bounded_to field (front_of sig
 pub bounded_front : (field : List ℕ) (signs : List Sign) (b : Bounds) → b.low.items ≡ front_of signs → b.past.items ≡ field ++ 0 ∷ [] → IsBounded field (wanted.Like signs) b
 bounded_front field signs b one two = bounded_from field (front_of signs) (wanted.Like signs) b one two
     (λ v fits less. let t = front_fits signs v fits in not_below_front (front_of signs) t.0 (sym (ap (λ z. slice_cmp nat_cmp z (front_of signs)) t.1) ∙ less))
+
+next_above : (n : ℕ) → nat_cmp n (n + 1) ≡ Less
+next_above n = grind arith
+
+-- what begins with a text is below it with its last byte one greater
+below_raised : (rest back : List ℕ) (last : ℕ) → slice_cmp nat_cmp ((rest ++ last ∷ []) ++ back) (rest ++ (last + 1) ∷ []) ≡ Less
+below_raised [] back last = ap (λ o. ordering_then o (slice_cmp nat_cmp back [])) (next_above last)
+below_raised (x ∷ rest) back last = then_right (nat_cmp x x) (slice_cmp nat_cmp ((rest ++ last ∷ []) ++ back) (rest ++ (last + 1) ∷ [])) (same_is_equal x) ∙ below_raised rest back last
+
+pub bounded_begun : (field : List ℕ) (signs : List Sign) (b : Bounds) → HoldsFront field (front_of signs) b → IsBounded field (wanted.Like signs) b
+bounded_begun field signs b (one, inl past) = bounded_front field signs b one past
+bounded_begun field signs b (one, inr (past, (rest, last, front, high))) = λ p e fits.
+    let t = front_fits signs p.value fits in
+    let value : p.value ≡ (rest ++ last ∷ []) ++ t.0 = t.1 ∙ ap (λ z. z ++ t.0) front in (
+      λ less. not_below_front (front_of signs) t.0 (sym (ap (λ z. slice_cmp nat_cmp z (front_of signs)) t.1) ∙ sym (with_field p field (front_of signs) e) ∙ ap (λ z. pair_cmp p (pair field z)) (sym one) ∙ less),
+      ap (λ z. pair_cmp p (pair z b.high.items)) past ∙ ap (λ z. pair_cmp p (pair field z)) high ∙ with_field p field (rest ++ (last + 1) ∷ []) e
+          ∙ ap (λ z. slice_cmp nat_cmp z (rest ++ (last + 1) ∷ [])) value ∙ below_raised rest t.0 last,
+    )
 
 both_true : (a b : Bool) → (a && b) ≡ true → (a ≡ true) × (b ≡ true)
 both_true true true e = (refl, refl)

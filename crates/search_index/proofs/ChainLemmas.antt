@@ -3,24 +3,12 @@ use Rattle.std.proofs.Common.{◌≡◌, ◌≢◌, ◌⊎◌, ◌↔◌, ℕ, z
 use Rattle.std.proofs.lemmas.Bool.{cases_eq}
 use Rattle.std.proofs.lemmas.List.{get_or-set_same, length-set, length-append}
 use Rattle.std.proofs.lemmas.Option.{slice_get_within, slice_get-get_or}
+use Rattle.ordered_keys.proofs.NumberLemmas.{Among-left, Among-right, Among-split}
 use Rattle.search_index.specs.Posting.{link}
 use Rattle.search_index.specs.Net.{heads_without}
-use Rattle.search_index.specs.Chains.{Among, IsPath, IsChain, IsLinked, Joins, IsWithout, IsWith}
+use Rattle.ordered_keys.specs.Numbers.{Among}
+use Rattle.search_index.specs.Chains.{IsPath, IsChain, IsLinked, Joins, IsWithout, IsWith}
 use Rattle.search_index.specs.declared.posting.Link.{Link}
-
-pub Among-left : (xs ys : List ℕ) (x : ℕ) → Among xs x → Among (xs ++ ys) x
-Among-left [] ys x h = absurd h
-Among-left (z ∷ xs) ys x (inl e) = inl e
-Among-left (z ∷ xs) ys x (inr h) = inr (Among-left xs ys x h)
-
-pub Among-right : (xs ys : List ℕ) (x : ℕ) → Among ys x → Among (xs ++ ys) x
-Among-right [] ys x h = h
-Among-right (z ∷ xs) ys x h = inr (Among-right xs ys x h)
-
-pub Among-split : (xs ys : List ℕ) (x : ℕ) → Among (xs ++ ys) x → Among xs x ⊎ Among ys x
-Among-split [] ys x h = inr h
-Among-split (z ∷ xs) ys x (inl e) = inl (inl e)
-Among-split (z ∷ xs) ys x (inr h) = elim (Among-split xs ys x h) [ inl a ↦ inl (inr a) | inr b ↦ inr b ]
 
 pub split_at : (ps : List ℕ) (p : ℕ) → Among ps p → (xs ys : List ℕ) × (ps ≡ xs ++ p ∷ ys)
 split_at [] p h = absurd h

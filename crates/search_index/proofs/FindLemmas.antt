@@ -1,5 +1,5 @@
 -- The names that a search of a scope gives.
-use Rattle.std.proofs.Common.{◌≡◌, ◌∙◌, ◌↔◌, ℕ, List, Some, IsTrue, sym, ap}
+use Rattle.std.proofs.Common.{◌≡◌, ◌∙◌, ◌↔◌, ℕ, List, Some, IsTrue, true, sym, ap}
 use Rattle.query_text.specs.Query.{Ors}
 use Rattle.search_query.specs.Pair.{Pair}
 use Rattle.search_query.specs.Matching.{Meets}
@@ -7,7 +7,7 @@ use Rattle.search_index.specs.declared.scope.Scope.{Scope}
 use Rattle.search_index.specs.declared.found.Found.{Found}
 use Rattle.search_index.specs.Arena.{ArePairs, Contents, HasObject, IsWhole}
 use Rattle.search_index.specs.Found.{has}
-use Rattle.search_index.specs.Keys.{IsAt, key_of}
+use Rattle.ordered_keys.specs.Keys.{IsAt, key_of}
 use Rattle.search_index.specs.KeyOrder.{object_key}
 use Rattle.search_index.specs.Names.{lists_name}
 use Rattle.search_index.specs.Scope.{scope_cmp}
@@ -32,11 +32,11 @@ module _ (c : Contents) (whole : IsWhole c) (scope : Scope) (number : ℕ) (at :
     λ t. (are p).1 (number, i, t.0, t.2.0, scope_is, is, t.1, t.2.1),
   )
 
-  pub names_meet : (query : Ors) (found : Found) (names result : List (List ℕ)) → Finds c.terms c.net number (Meets query) found → AreNames c.objects number found names → ((name : List ℕ) → lists_name result name ≡ lists_name names name)
+  pub names_meet : (query : Ors) (every found : Found) (names result : List (List ℕ)) → ((x : ℕ) → has every x ≡ true) → Finds c.terms c.net number every (Meets query) found → AreNames c.objects number found names → ((name : List ℕ) → lists_name result name ≡ lists_name names name)
       → (name : List ℕ) (pairs : List Pair) → HasObject c scope name → ArePairs c scope name pairs → IsTrue (lists_name result name) ↔ Meets query pairs
-  names_meet query found names result finds named same name pairs h are =
+  names_meet query every found names result all finds named same name pairs h are =
       let object = object_is name h in
-      let told = finds object.0 pairs (pairs_at name pairs object.0 object.1 are) in (
+      let told = finds object.0 pairs (pairs_at name pairs object.0 object.1 are) (all object.0) in (
         λ l.
             let t = (named name).0 (sym (same name) ∙ l) in
             let one : t.0 ≡ object.0 = whole.tied.objects_once t.0 object.0 (object_key number name) t.1 object.1 in

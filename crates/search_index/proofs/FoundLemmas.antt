@@ -8,7 +8,7 @@ use Rattle.std.proofs.lemmas.List.{take_more}
 use Rattle.std.proofs.lemmas.List.Folds.{list_any-append}
 use Rattle.std.proofs.lemmas.List.Sorted.{searched}
 use mathlib.Core.Bool.{beq}
-use Rattle.search_index.specs.Chains.{Among}
+use Rattle.ordered_keys.specs.Numbers.{Among}
 use Rattle.search_index.specs.Found.{both_are, is_in}
 
 pub in_at : (xs : List ℕ) (i x : ℕ) → i < length xs → get_or xs i 0 ≡ x → is_in xs x ≡ true

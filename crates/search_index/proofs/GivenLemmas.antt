@@ -6,12 +6,12 @@ use Rattle.search_query.specs.Pair.{Pair}
 use Rattle.search_index.specs.declared.scope.Scope.{Scope}
 use Rattle.search_index.specs.declared.key.ObjectKey.{ObjectKey}
 use Rattle.search_index.specs.declared.key.TermKey.{TermKey}
-use Rattle.search_index.specs.Keys.{Keys, Inserts, IsAbsent, IsOnce, Numbers, key_of}
+use Rattle.ordered_keys.specs.Keys.{Keys, Inserts, IsAbsent, IsOnce, Numbers, key_of}
 use Rattle.search_index.specs.KeyOrder.{object_cmp, object_cmp_total, object_key}
 use Rattle.search_index.specs.Net.{Net, held, used}
 use Rattle.search_index.specs.Arena.{Contents, Member, HasObject, Holds, LosesRoom, AddsObject, IsTied, IsWhole, AddsTerm}
 use Rattle.search_index.proofs.EqualKeys.{same_objects}
-use Rattle.search_index.proofs.OrderLemmas.{numbers_new}
+use Rattle.ordered_keys.proofs.KeyLemmas.{numbers_new}
 use Rattle.search_index.proofs.NetLemmas.{cases_option}
 
 -- the term of a pair
@@ -29,7 +29,7 @@ pub record Given (was now : Contents) (number object : ℕ) (name : List ℕ) (p
   pub terms_kept : (j : ℕ) (y : TermKey) → key_of was.terms j ≡ Some y → key_of now.terms j ≡ Some y
   pub net_kept : (q i j : ℕ) → held was.net q ≡ Some (i, j) → held now.net q ≡ Some (i, j)
   pub from : (q i j : ℕ) → held now.net q ≡ Some (i, j) → (held was.net q ≡ Some (i, j)) ⊎ ((i ≡ object) × ((p : Pair) × Member done p × (key_of now.terms j ≡ Some (term_of number p))))
-  pub given : (p : Pair) → Member done p → (q j : ℕ) × (held now.net q ≡ Some (object, j)) × (key_of now.terms j ≡ Some (term_of number p))
+  pub given : (p : Pair) → Member done p → (q j : ℕ) × (held was.net q ≡ None) × (held now.net q ≡ Some (object, j)) × (key_of now.terms j ≡ Some (term_of number p))
   pub used_is : used now.net ≡ used was.net + length done
   pub capacity : now.net.capacity ≡ was.net.capacity
   pub room : was.terms.room ≤ now.terms.room + length done
@@ -93,8 +93,8 @@ given_more was now more wider number object name pairs left rest p g last adds =
         ]
       ];
       given = λ x m. elim m [
-        | inl e ↦ (adds.adds.place, adds.term, adds.adds.changes.at, adds.numbers.put ∙ ap (λ z. Some (term_of number z)) e)
-        | inr m ↦ let old = g.given x m in (old.0, old.1, kept old.0 object old.1 old.2, adds.numbers.kept old.1 (term_of number x) old.3)
+        | inl e ↦ (adds.adds.place, adds.term, fresh, adds.adds.changes.at, adds.numbers.put ∙ ap (λ z. Some (term_of number z)) e)
+        | inr m ↦ let old = g.given x m in (old.0, old.1, old.2, kept old.0 object old.1 old.3, adds.numbers.kept old.1 (term_of number x) old.4)
       ];
       used_is = omega (arith, g.used_is, adds.adds.used);
       capacity = adds.adds.size.capacity ∙ g.capacity;
@@ -107,6 +107,13 @@ given_more was now more wider number object name pairs left rest p g last adds =
     kept q i j is = elim (cases_eq q adds.adds.place) [
       | inl here ↦ let none : held now.net q ≡ None = ap (held now.net) here ∙ adds.adds.was in absurd (cc)
       | inr differs ↦ adds.adds.changes.others q differs ∙ is
+    ]
+
+    -- what is free now was free before the first pair
+    fresh : held was.net adds.adds.place ≡ None
+    fresh = elim (cases_option (held was.net adds.adds.place)) [
+      | inl none ↦ none
+      | inr ((i, j), is) ↦ let kept_one : held now.net adds.adds.place ≡ Some (i, j) = g.net_kept adds.adds.place i j is in let none = adds.adds.was in absurd (cc)
     ]
 
 -- before the first pair: the object is there, and has none
@@ -174,7 +181,7 @@ given_all old was now scope number object name pairs left whole scopes objects s
         )
         | inr (e, f, m) ↦
             let mine = g.given p (subst (λ z. Member z p) all m) in
-            (number, object, mine.1, mine.0, ap (λ z. key_of z number) g.scopes ∙ scopes.put ∙ ap Some (sym e), ap (λ z. key_of z object) g.objects ∙ objects.put ∙ ap (λ z. Some (object_key number z)) (sym f), mine.3, mine.2)
+            (number, object, mine.1, mine.0, ap (λ z. key_of z number) g.scopes ∙ scopes.put ∙ ap Some (sym e), ap (λ z. key_of z object) g.objects ∙ objects.put ∙ ap (λ z. Some (object_key number z)) (sym f), mine.4, mine.3)
       ],
     );
   };

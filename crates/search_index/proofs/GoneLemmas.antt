@@ -5,7 +5,7 @@ use Rattle.std.specs.Cmp.{tied_itself}
 use Rattle.search_index.specs.declared.scope.Scope.{Scope}
 use Rattle.search_index.specs.declared.key.ObjectKey.{ObjectKey}
 use Rattle.search_index.specs.declared.key.TermKey.{TermKey}
-use Rattle.search_index.specs.Keys.{Keys, IsAbsent, IsAt, Removes, key_of}
+use Rattle.ordered_keys.specs.Keys.{Keys, IsAbsent, IsAt, Removes, key_of}
 use Rattle.search_index.specs.KeyOrder.{object_cmp, object_cmp_total, object_key}
 use Rattle.search_index.specs.Scope.{scope_cmp, scope_cmp_total}
 use Rattle.search_index.specs.Net.{Net, HasNone, IsUnused, Widens, held, used}
@@ -49,17 +49,17 @@ pub tied_drops : (objects : Keys ObjectKey) (terms fewer : Keys TermKey) (net le
 tied_drops objects terms fewer net less object tied drops = record {
   joined = λ q i j is.
       let old = tied.joined q i j (before q i j is) in
-      record { object = old.object; term = old.term; object_at = old.object_at; term_at = drops.kept j old.term old.term_at (λ e unused. unused i (q, is ∙ ap (λ z. Some (i, z)) e)); scope = old.scope };
+      record { object = old.object; term = old.term; object_at = old.object_at; term_at = drops.drops.kept j old.term old.term_at (λ e unused. unused i (q, is ∙ ap (λ z. Some (i, z)) e)); scope = old.scope };
   used_terms = λ j y is unused.
-      let was = drops.from j y is in
+      let was = drops.drops.from j y is in
       elim (cases_eq j drops.term) [
         | inl e ↦ was.1 e (subst (λ z. IsUnused less z) e unused)
         | inr differs ↦ tied.used_terms j y was.0 (λ o has. unused o (has.0, drops.takes.changes.others has.0 (λ here. differs (both o j object drops.term (sym has.1 ∙ ap (held net) here ∙ drops.takes.was)).1) ∙ has.1))
       ];
   objects_once = tied.objects_once;
-  terms_once = λ i j x one two. tied.terms_once i j x (drops.from i x one).0 (drops.from j x two).0;
+  terms_once = λ i j x one two. tied.terms_once i j x (drops.drops.from i x one).0 (drops.drops.from j x two).0;
   object_heads = omega (arith, tied.object_heads, drops.takes.size.objects);
-  term_heads = omega (arith, tied.term_heads, drops.size, drops.takes.size.terms);
+  term_heads = omega (arith, tied.term_heads, drops.drops.size, drops.takes.size.terms);
 }
   where
     before : (q i j : ℕ) → held less q ≡ Some (i, j) → held net q ≡ Some (i, j)
@@ -78,8 +78,8 @@ remains_more was now fewer less object r drops = record {
     | inr differs ↦ sym (drops.takes.changes.others q differs) ∙ is
   ]);
   others = λ q i j is differs. drops.takes.changes.others q (λ here. differs (both i j object drops.term (sym (r.others q i j is differs) ∙ ap (held now.net) here ∙ drops.takes.was)).0) ∙ r.others q i j is differs;
-  terms_from = λ j y is. r.terms_from j y (drops.from j y is).0;
-  room = omega (arith, r.room, drops.room);
+  terms_from = λ j y is. r.terms_from j y (drops.drops.from j y is).0;
+  room = omega (arith, r.room, drops.drops.room);
   used_less = omega (arith, r.used_less, drops.takes.used);
   capacity = drops.takes.size.capacity ∙ r.capacity;
 }

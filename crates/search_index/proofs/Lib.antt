@@ -1,11 +1,11 @@
 pub mod ChainLemmas
 pub mod NetLemmas
 pub mod WalkLemmas
-pub mod KeyLemmas
-pub mod OrderLemmas
 pub mod EqualKeys
 pub mod GivenLemmas
 pub mod GoneLemmas
+pub mod PlaceLemmas
+pub mod ReplacedLemmas
 pub mod Neighbours
 pub mod FoundLemmas
 pub mod SeekLemmas

@@ -12,13 +12,13 @@ use Rattle.std.proofs.lemmas.List.Kept.{IsStrictlySortedBy-dedup}
 use Rattle.std.proofs.lemmas.List.Sorted.{list_any-IsPermutation}
 use Rattle.search_index.specs.declared.key.ObjectKey.{ObjectKey}
 use Rattle.search_index.specs.declared.found.Found.{Found}
-use Rattle.search_index.specs.Chains.{Among}
+use Rattle.ordered_keys.specs.Numbers.{Among}
 use Rattle.search_index.specs.Found.{has}
-use Rattle.search_index.specs.Keys.{Keys, key_of}
+use Rattle.ordered_keys.specs.Keys.{Keys, key_of}
 use Rattle.search_index.specs.KeyOrder.{object_key}
 use Rattle.search_index.specs.Names.{lists_name}
 use Rattle.search_index.specs.Seeking.{AreNames}
-use Rattle.search_index.proofs.ChainLemmas.{Among-left, Among-right, Among-split}
+use Rattle.ordered_keys.proofs.NumberLemmas.{Among-left, Among-right, Among-split}
 
 abbrev pub same : List ℕ → List ℕ → Bool
 same = eq_by_cmp (slice_cmp nat_cmp)

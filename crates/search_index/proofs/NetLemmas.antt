@@ -8,7 +8,8 @@ use Rattle.std.proofs.lemmas.List.Sums.{sum_by-cons, sum_by-set}
 use Rattle.slab.specs.Slab.{Slab, get, with_value, slab_len, Updates}
 use Rattle.slab.proofs.SlabLemmas.{Updates-with_value, ContainsKey-within}
 use Rattle.search_index.specs.Posting.{link, link_of, owner_of, owner_in, with_next, with_before, pair_of, other_side}
-use Rattle.search_index.specs.Chains.{Among, IsChain, IsLinked, Joins, IsWithout, IsWith}
+use Rattle.ordered_keys.specs.Numbers.{Among}
+use Rattle.search_index.specs.Chains.{IsChain, IsLinked, Joins, IsWithout, IsWith}
 use Rattle.search_index.specs.Net.{links, pairs, owners, changed_at, heads_without, Unlinks, held, used, net_of, IsSound, Takes, Adds, Pads}
 use Rattle.search_index.proofs.ChainLemmas.{linked_unlinks, linked_pushes, linked_kept, linked_pads, length-heads_without, neighbours_differ, next_among, chained}
 use Rattle.search_index.specs.declared.posting.Link.{Link}
@@ -218,13 +219,14 @@ removed_side s old items less heads fewer place updates same linked =
     (λ q. refl) (linked owner without)
 
 -- a posting was taken out
-pub record IsTaken (items less : Slab Posting) (objects terms fewer_objects fewer_terms : List (Option ℕ)) (x : Posting) : Type 0 where
+pub record IsTaken (items less : Slab Posting) (objects terms fewer_objects fewer_terms : List (Option ℕ)) (place : ℕ) (x : Posting) : Type 0 where
   pub sound : IsSound less fewer_objects fewer_terms
   pub takes : Takes (net_of items objects terms) (net_of less fewer_objects fewer_terms) x.object x.term
+  pub at : takes.place ≡ place
 
 pub taken : (items one two less : Slab Posting) (objects terms fewer_objects fewer_terms : List (Option ℕ)) (place : ℕ) (x : Posting)
     → IsSound items objects terms → get items place ≡ Some x → Unlinks side.Term items one terms fewer_terms place → Unlinks side.Object one two objects fewer_objects place
-    → Updates two less place None → slab_len less + 1 ≡ slab_len two → less.capacity ≡ two.capacity → IsTaken items less objects terms fewer_objects fewer_terms x
+    → Updates two less place None → slab_len less + 1 ≡ slab_len two → less.capacity ≡ two.capacity → IsTaken items less objects terms fewer_objects fewer_terms place x
 taken items one two less objects terms fewer_objects fewer_terms place x sound at of_term of_object updates len capacity =
     let pairs_one : (q : ℕ) → pairs one q ≡ pairs items q = of_term.pairs in
     let pairs_two : (q : ℕ) → pairs two q ≡ pairs items q = λ q. of_object.pairs q ∙ of_term.pairs q in
@@ -245,6 +247,7 @@ taken items one two less objects terms fewer_objects fewer_terms place x sound a
         used = omega (arith, used-net items objects terms, used-net less fewer_objects fewer_terms, len, of_object.len, of_term.len);
         size = record { capacity = capacity ∙ of_object.capacity ∙ of_term.capacity; objects = of_object.count; terms = of_term.count };
       };
+      at = refl;
     }
 
 -- ---- a posting into both chains

@@ -1,15 +1,17 @@
 -- A walk along a chain comes to each of its places once.
-use Rattle.std.proofs.Common.{◌≡◌, ◌≢◌, ◌↔◌, ℕ, ◌<◌, ◌≤◌, inl, inr, true, false, eqb, ◌||◌, List, [], ◌∷◌, ◌++◌, length, Option, Some, None, option_map, get_or, refl, sym, ap, subst, ◌∙◌, arith}
+use Rattle.std.proofs.Common.{◌≡◌, ◌≢◌, ◌↔◌, ℕ, ◌<◌, ◌≤◌, inl, inr, true, false, eqb, ◌||◌, List, [], ◌∷◌, ◌++◌, length, Option, Some, None, option_map, Result, Ok, Err, IfOk, get_or, refl, sym, ap, subst, ◌∙◌, arith}
 use Rattle.std.specs.List.{IsDistinct, AllByRecursion, list_any}
 use Rattle.std.proofs.lemmas.Bool.{cases_Bool, cases_lt, false≢true}
 use Rattle.std.proofs.lemmas.Option.{slice_get-get_or}
 use Rattle.std.proofs.lemmas.List.{append_assoc, get_or_past, length-append}
 use Rattle.std.proofs.lemmas.Map.Steps.{length-le_from_distinct_below}
 use Rattle.slab.specs.Slab.{Slab, get}
-use Rattle.search_index.specs.Chains.{Among, IsPath}
-use Rattle.search_index.specs.Posting.{link_of, owner_in, pair_of}
-use Rattle.search_index.specs.Net.{links, pairs, owners, held, net_of, IsSound, Has, HasNone, IsUnused}
-use Rattle.search_index.proofs.ChainLemmas.{Among-left, Among-right, Among-split, apart, path}
+use Rattle.ordered_keys.specs.Numbers.{Among}
+use Rattle.search_index.specs.Chains.{IsLinked, IsPath}
+use Rattle.search_index.specs.Posting.{link_of, other_side, owner_in, owner_of, pair_of}
+use Rattle.search_index.specs.Net.{links, pairs, owners, held, net_of, IsSound, Has, HasNone, IsUnused, Leads}
+use Rattle.ordered_keys.proofs.NumberLemmas.{Among-left, Among-right, Among-split}
+use Rattle.search_index.proofs.ChainLemmas.{apart, path}
 use Rattle.search_index.proofs.NetLemmas.{cases_option, held-net, headed_by, unheaded}
 use Rattle.search_index.specs.declared.posting.Link.{Link}
 use Rattle.search_index.specs.declared.posting.Side.{Side}
@@ -50,83 +52,101 @@ owned s items q h e = elim (cases_lt q (length items.slots)) [
       absurd (cc)
 ]
 
--- a walk has found the objects of the places behind it, and the others of the chain lie ahead
-pub record IsWalk (items : Slab Posting) (term : ℕ) (first : Option ℕ) (found : List ℕ) (at : Option ℕ) : Type 0 where
+-- a walk has found what the places behind it have at their other side, and the others of the chain lie ahead
+pub record IsWalk (s : Side) (items : Slab Posting) (owner : ℕ) (first : Option ℕ) (found : List ℕ) (at : Option ℕ) : Type 0 where
   pub done : List ℕ
   pub rest : List ℕ
-  pub whole : IsPath (links side.Term items) first (done ++ rest)
-  pub left : IsPath (links side.Term items) at rest
-  pub members : (q : ℕ) → Among (done ++ rest) q ↔ (owners side.Term (pairs items) q ≡ Some term)
-  pub seen : (o : ℕ) → Among found o ↔ ((q : ℕ) × Among done q × (owners side.Object (pairs items) q ≡ Some o))
+  pub whole : IsPath (links s items) first (done ++ rest)
+  pub left : IsPath (links s items) at rest
+  pub members : (q : ℕ) → Among (done ++ rest) q ↔ (owners s (pairs items) q ≡ Some owner)
+  pub seen : (o : ℕ) → Among found o ↔ ((q : ℕ) × Among done q × (owners (other_side s) (pairs items) q ≡ Some o))
   pub count : length found ≡ length done
 
-pub walk_begins : (items : Slab Posting) (objects terms : List (Option ℕ)) (term : ℕ) (first : Option ℕ) → IsSound items objects terms → first ≡ get_or terms term None → IsWalk items term first [] first
-walk_begins items objects terms term first sound e = elim (cases_lt term (length terms)) [
+pub walk_begins : (s : Side) (items : Slab Posting) (heads : List (Option ℕ)) (owner : ℕ) (first : Option ℕ) → IsLinked (links s items) (owners s (pairs items)) heads → first ≡ get_or heads owner None → IsWalk s items owner first [] first
+walk_begins s items heads owner first linked e = elim (cases_lt owner (length heads)) [
   | inl within ↦
-      let at = slice_get-get_or terms term None within ∙ ap Some (sym e) in
-      let chain = sound.of_terms.chain term first at in
-      let whole = path (links side.Term items) None first chain.0 chain.1 in
+      let at = slice_get-get_or heads owner None within ∙ ap Some (sym e) in
+      let chain = linked.chain owner first at in
+      let whole = path (links s items) None first chain.0 chain.1 in
       record { done = []; rest = chain.0; whole = whole; left = whole; members = chain.2; seen = λ o. (λ a. absurd a, λ t. absurd t.1); count = refl }
   | inr past ↦
-      let none : first ≡ None = e ∙ get_or_past terms term None past in
-      record { done = []; rest = []; whole = none; left = none; members = λ q. (λ a. absurd a, λ mine. let within = sound.of_terms.headed q term mine in absurd (omega arith)); seen = λ o. (λ a. absurd a, λ t. absurd t.1); count = refl }
+      let none : first ≡ None = e ∙ get_or_past heads owner None past in
+      record { done = []; rest = []; whole = none; left = none; members = λ q. (λ a. absurd a, λ mine. let within = linked.headed q owner mine in absurd (omega arith)); seen = λ o. (λ a. absurd a, λ t. absurd t.1); count = refl }
 ]
 
-pub record Steps (items : Slab Posting) (term : ℕ) (first : Option ℕ) (found : List ℕ) (place : ℕ) (x : Posting) : Type 0 where
-  pub after : IsWalk items term first (found ++ x.object ∷ []) x.of_term.next
+pub record Steps (s : Side) (items : Slab Posting) (owner : ℕ) (first : Option ℕ) (found : List ℕ) (place : ℕ) (x : Posting) : Type 0 where
+  pub after : IsWalk s items owner first (found ++ owner_in (other_side s) (pair_of x) ∷ []) (link_of s x).next
   pub within : length found < length items.slots
 
-pub walk_there : (items : Slab Posting) (term : ℕ) (first : Option ℕ) (found : List ℕ) (at : Option ℕ) (place : ℕ) → IsWalk items term first found at → at ≡ Some place → (x : Posting) × (get items place ≡ Some x)
-walk_there items term first found at place walk e = there walk.rest walk.left
+pub walk_there : (s : Side) (items : Slab Posting) (owner : ℕ) (first : Option ℕ) (found : List ℕ) (at : Option ℕ) (place : ℕ) → IsWalk s items owner first found at → at ≡ Some place → (x : Posting) × (get items place ≡ Some x)
+walk_there s items owner first found at place walk e = there walk.rest walk.left
   where
-    there : (rest : List ℕ) → IsPath (links side.Term items) at rest → (x : Posting) × (get items place ≡ Some x)
+    there : (rest : List ℕ) → IsPath (links s items) at rest → (x : Posting) × (get items place ≡ Some x)
     there [] none = absurd (cc)
     there (p ∷ rest) (l, f, is, more) =
         let same : p ≡ place = cc in
         elim (cases_option (get items p)) [
-          | inl gone ↦ let none : links side.Term items p ≡ None = ap (option_map (link_of side.Term)) gone in absurd (cc)
+          | inl gone ↦ let none : links s items p ≡ None = ap (option_map (link_of s)) gone in absurd (cc)
           | inr (x, there_is) ↦ (x, ap (get items) (sym same) ∙ there_is)
         ]
 
-pub walk_steps : (items : Slab Posting) (term : ℕ) (first : Option ℕ) (found : List ℕ) (at : Option ℕ) (place : ℕ) (x : Posting) → IsWalk items term first found at → at ≡ Some place → get items place ≡ Some x → Steps items term first found place x
-walk_steps items term first found at place x walk e is_x = steps walk.rest walk.whole walk.left walk.members
+pub walk_steps : (s : Side) (items : Slab Posting) (owner : ℕ) (first : Option ℕ) (found : List ℕ) (at : Option ℕ) (place : ℕ) (x : Posting) → IsWalk s items owner first found at → at ≡ Some place → get items place ≡ Some x → Steps s items owner first found place x
+walk_steps s items owner first found at place x walk e is_x = steps walk.rest walk.whole walk.left walk.members
   where
     done : List ℕ
     done = walk.done
 
-    steps : (rest : List ℕ) → IsPath (links side.Term items) first (done ++ rest) → IsPath (links side.Term items) at rest → ((q : ℕ) → Among (done ++ rest) q ↔ (owners side.Term (pairs items) q ≡ Some term)) → Steps items term first found place x
+    other : ℕ
+    other = owner_in (other_side s) (pair_of x)
+
+    steps : (rest : List ℕ) → IsPath (links s items) first (done ++ rest) → IsPath (links s items) at rest → ((q : ℕ) → Among (done ++ rest) q ↔ (owners s (pairs items) q ≡ Some owner)) → Steps s items owner first found place x
     steps [] whole none members = absurd (cc)
     steps (p ∷ rest) whole (l, f, is, more) members =
         let same : p ≡ place = cc in
-        let link_is : links side.Term items p ≡ Some x.of_term = ap (links side.Term items) same ∙ ap (option_map (link_of side.Term)) is_x in
-        let next : l ≡ x.of_term = cc in
-        let mine : owners side.Object (pairs items) p ≡ Some x.object = ap (owners side.Object (pairs items)) same ∙ ap (λ o. option_map (owner_in side.Object) (option_map pair_of o)) is_x in
+        let link_is : links s items p ≡ Some (link_of s x) = ap (links s items) same ∙ ap (option_map (link_of s)) is_x in
+        let next : l ≡ link_of s x = cc in
+        let mine : owners (other_side s) (pairs items) p ≡ Some other = ap (owners (other_side s) (pairs items)) same ∙ ap (λ o. option_map (owner_in (other_side s)) (option_map pair_of o)) is_x in
         let shift : done ++ p ∷ rest ≡ (done ++ p ∷ []) ++ rest = sym (append_assoc done (p ∷ []) rest) in
-        let long = path_length (links side.Term items) first (done ++ p ∷ rest) (length items.slots) whole (λ q a. owned side.Term items q term ((members q).0 a)) in
+        let long = path_length (links s items) first (done ++ p ∷ rest) (length items.slots) whole (λ q a. owned s items q owner ((members q).0 a)) in
         let sizes = length-append done (p ∷ rest) in
         record {
           after = record {
             done = done ++ p ∷ [];
             rest = rest;
-            whole = subst (λ z. IsPath (links side.Term items) first z) shift whole;
-            left = subst (λ (z : Link). IsPath (links side.Term items) z.next rest) next more;
-            members = subst (λ (z : List ℕ). (q : ℕ) → Among z q ↔ (owners side.Term (pairs items) q ≡ Some term)) shift members;
+            whole = subst (λ z. IsPath (links s items) first z) shift whole;
+            left = subst (λ (z : Link). IsPath (links s items) z.next rest) next more;
+            members = subst (λ (z : List ℕ). (q : ℕ) → Among z q ↔ (owners s (pairs items) q ≡ Some owner)) shift members;
             seen = λ o. (
-              λ a. elim (Among-split found (x.object ∷ []) o a) [
+              λ a. elim (Among-split found (other ∷ []) o a) [
                 | inl b ↦ let old = (walk.seen o).0 b in (old.0, Among-left done (p ∷ []) old.0 old.1, old.2)
                 | inr (inl b) ↦ (p, Among-right done (p ∷ []) p (inl refl), mine ∙ ap Some b)
                 | inr (inr b) ↦ absurd b
               ],
               λ t. elim (Among-split done (p ∷ []) t.0 t.1) [
-                | inl b ↦ Among-left found (x.object ∷ []) o ((walk.seen o).1 (t.0, b, t.2))
-                | inr (inl b) ↦ Among-right found (x.object ∷ []) o (inl (let theirs : owners side.Object (pairs items) t.0 ≡ Some o = t.2 in let here : owners side.Object (pairs items) t.0 ≡ Some x.object = ap (owners side.Object (pairs items)) (sym b) ∙ mine in let one : x.object ≡ o = cc in one))
+                | inl b ↦ Among-left found (other ∷ []) o ((walk.seen o).1 (t.0, b, t.2))
+                | inr (inl b) ↦ Among-right found (other ∷ []) o (inl (let theirs : owners (other_side s) (pairs items) t.0 ≡ Some o = t.2 in let here : owners (other_side s) (pairs items) t.0 ≡ Some other = ap (owners (other_side s) (pairs items)) (sym b) ∙ mine in let one : other ≡ o = cc in one))
                 | inr (inr b) ↦ absurd b
               ],
             );
-            count = omega (arith, length-append found (x.object ∷ []), length-append done (p ∷ []), walk.count);
+            count = omega (arith, length-append found (other ∷ []), length-append done (p ∷ []), walk.count);
           };
           within = omega (arith, long, sizes, walk.count);
         }
+
+pub walk_ends : (s : Side) (items : Slab Posting) (owner : ℕ) (first : Option ℕ) (found : List ℕ) (at : Option ℕ) → IsWalk s items owner first found at → at ≡ None → (other : ℕ) → Among found other ↔ Leads s items owner other
+walk_ends s items owner first found at walk e other = ends walk.rest walk.left walk.members
+  where
+    ends : (rest : List ℕ) → IsPath (links s items) at rest → ((q : ℕ) → Among (walk.done ++ rest) q ↔ (owners s (pairs items) q ≡ Some owner)) → Among found other ↔ Leads s items owner other
+    ends (p ∷ rest) (l, f, is, more) members = absurd (cc)
+    ends [] none members = (
+      λ a. let old = (walk.seen other).0 a in (old.0, (members old.0).0 (Among-left walk.done [] old.0 old.1), old.2),
+      λ h. (walk.seen other).1 (h.0, elim (Among-split walk.done [] h.0 ((members h.0).1 h.1)) [ inl a ↦ a | inr b ↦ absurd b ], h.2),
+    )
+
+-- the number of a posting's owner is that of its pair
+pub owner_same : (s : Side) (x : Posting) → owner_of s x ≡ owner_in s (pair_of x)
+owner_same side.Term x = refl
+owner_same side.Object x = refl
 
 has_pair : (items : Slab Posting) (objects terms : List (Option ℕ)) (q object term : ℕ) → owners side.Term (pairs items) q ≡ Some term → owners side.Object (pairs items) q ≡ Some object → held (net_of items objects terms) q ≡ Some (object, term)
 has_pair items objects terms q object term t o = elim (cases_option (pairs items q)) [
@@ -142,15 +162,27 @@ has_pair items objects terms q object term t o = elim (cases_option (pairs items
 pub owner_held : (s : Side) (items : Slab Posting) (objects terms : List (Option ℕ)) (q object term : ℕ) → held (net_of items objects terms) q ≡ Some (object, term) → owners s (pairs items) q ≡ Some (owner_in s (object, term))
 owner_held s items objects terms q object term e = ap (option_map (owner_in s)) (sym (held-net items objects terms q) ∙ e)
 
-pub walk_ends : (items : Slab Posting) (objects terms : List (Option ℕ)) (term : ℕ) (first : Option ℕ) (found : List ℕ) (at : Option ℕ) → IsWalk items term first found at → at ≡ None → (object : ℕ) → Among found object ↔ Has (net_of items objects terms) object term
-walk_ends items objects terms term first found at walk e object = ends walk.rest walk.left walk.members
-  where
-    ends : (rest : List ℕ) → IsPath (links side.Term items) at rest → ((q : ℕ) → Among (walk.done ++ rest) q ↔ (owners side.Term (pairs items) q ≡ Some term)) → Among found object ↔ Has (net_of items objects terms) object term
-    ends (p ∷ rest) (l, f, is, more) members = absurd (cc)
-    ends [] none members = (
-      λ a. let old = (walk.seen object).0 a in (old.0, has_pair items objects terms old.0 object term ((members old.0).0 (Among-left walk.done [] old.0 old.1)) old.2),
-      λ h. (walk.seen object).1 (h.0, elim (Among-split walk.done [] h.0 ((members h.0).1 (owner_held side.Term items objects terms h.0 object term h.1))) [ inl a ↦ a | inr b ↦ absurd b ], owner_held side.Object items objects terms h.0 object term h.1),
-    )
+-- a term leads to the objects that have it
+pub to_objects : (items : Slab Posting) (objects terms : List (Option ℕ)) (term object : ℕ) → Leads side.Term items term object ↔ Has (net_of items objects terms) object term
+to_objects items objects terms term object = (
+  λ h. (h.0, has_pair items objects terms h.0 object term h.1 h.2),
+  λ h. (h.0, owner_held side.Term items objects terms h.0 object term h.1, owner_held side.Object items objects terms h.0 object term h.1),
+)
+
+-- and an object to the terms that it has
+pub to_terms : (items : Slab Posting) (objects terms : List (Option ℕ)) (object term : ℕ) → Leads side.Object items object term ↔ Has (net_of items objects terms) object term
+to_terms items objects terms object term = (
+  λ h. (h.0, has_pair items objects terms h.0 object term h.2 h.1),
+  λ h. (h.0, owner_held side.Object items objects terms h.0 object term h.1, owner_held side.Term items objects terms h.0 object term h.1),
+)
+
+-- what a result promises, said otherwise
+pub told_so : {T E : Type 0} (P Q : T → Type 0) (r : Result T E) → ((x : T) → P x → Q x) → IfOk r P → IfOk r Q
+told_so P Q (Ok x) so told = so x told
+told_so P Q (Err e) so told = tt
+
+pub either_way : {A B C : Type 0} → A ↔ B → B ↔ C → A ↔ C
+either_way one other = (λ a. other.0 (one.0 a), λ c. one.1 (other.1 c))
 
 -- ---- heads
 

@@ -5,8 +5,9 @@ use Rattle.search_query.specs.Pair.{Pair, pair_code}
 use Rattle.search_index.specs.declared.scope.Scope.{Scope}
 use Rattle.search_index.specs.declared.key.ObjectKey.{ObjectKey}
 use Rattle.search_index.specs.declared.key.TermKey.{TermKey}
-use Rattle.search_index.specs.Keys.{Keys, IsOnce, Numbers, key_of, keys_code}
-use Rattle.search_index.specs.Net.{Net, Adds, Takes, IsUnused, held, net_code, used}
+use Rattle.ordered_keys.specs.Keys.{Keys, IsOnce, Numbers, key_of, keys_code}
+use Rattle.ordered_keys.specs.Numbers.{Among}
+use Rattle.search_index.specs.Net.{Net, Adds, IsOf, IsUnused, Takes, held, net_code, used}
 use Rattle.search_index.specs.KeyOrder.{object_key}
 
 -- what an index has: scopes, objects and terms under numbers, and the postings between these
@@ -70,6 +71,11 @@ pub record DropsObject (old new : Contents) (scope : Scope) (name : List ℕ) : 
   pub objects : (s : Scope) (n : List ℕ) → HasObject new s n ↔ (HasObject old s n × (((s ≡ scope) × (n ≡ name)) → ⊥))
   pub pairs_are : (s : Scope) (n : List ℕ) (p : Pair) → Holds new s n p ↔ (Holds old s n p × (((s ≡ scope) × (n ≡ name)) → ⊥))
 
+-- this object has these pairs and no others now, whether it was there or not, and all else is as before
+pub record ReplacesObject (old new : Contents) (scope : Scope) (name : List ℕ) (pairs : List Pair) : Type 0 where
+  pub objects : (s : Scope) (n : List ℕ) → HasObject new s n ↔ ((HasObject old s n × (((s ≡ scope) × (n ≡ name)) → ⊥)) ⊎ ((s ≡ scope) × (n ≡ name)))
+  pub pairs_are : (s : Scope) (n : List ℕ) (p : Pair) → Holds new s n p ↔ ((Holds old s n p × (((s ≡ scope) × (n ≡ name)) → ⊥)) ⊎ ((s ≡ scope) × (n ≡ name) × Member pairs p))
+
 -- how the logic stores a scope
 abbrev pub scope_code : Coded Scope
 scope_code = code_by (List ℕ × List ℕ) (coded× (coded_list coded_ℕ) (coded_list coded_ℕ)) (λ s. (s.org, s.index)) (λ p. record { org = p.0; index = p.1 }) (λ _. refl)
@@ -86,6 +92,12 @@ term_code = code_by (ℕ × Pair) (coded× coded_ℕ pair_code) (λ k. (k.scope,
 abbrev pub contents_code : Coded Contents
 contents_code = code_by (Keys Scope × (Keys ObjectKey × (Keys TermKey × Net))) (coded× (keys_code scope_code) (coded× (keys_code object_code) (coded× (keys_code term_code) net_code)))
     (λ c. (c.scopes, (c.objects, (c.terms, c.net)))) (λ p. record { scopes = p.0; objects = p.1.0; terms = p.1.1.0; net = p.1.1.1 }) (λ _. refl)
+
+-- an object stands under this number, its scope under that, and its postings are in these places
+pub record ArePlaces (c : Contents) (scope : Scope) (name : List ℕ) (number object : ℕ) (places : List ℕ) : Type 0 where
+  pub scope_at : key_of c.scopes number ≡ Some scope
+  pub object_at : key_of c.objects object ≡ Some (object_key number name)
+  pub all : (q : ℕ) → Among places q ↔ IsOf c.net object q
 
 -- a posting's object and term are there, of one scope
 pub record IsJoined (objects : Keys ObjectKey) (terms : Keys TermKey) (i j : ℕ) : Type 0 where
@@ -120,14 +132,24 @@ pub record AddsTerm (terms more : Keys TermKey) (net wider : Net) (object : ℕ)
   pub numbers : Numbers terms more key term
   pub adds : Adds net wider object term
 
+-- a term was taken out where no posting is of it
+pub record DropsUnused (terms fewer : Keys TermKey) (net : Net) (term : ℕ) : Type 0 where
+  pub kept : (j : ℕ) (y : TermKey) → key_of terms j ≡ Some y → (j ≡ term → IsUnused net term → ⊥) → key_of fewer j ≡ Some y
+  pub from : (j : ℕ) (y : TermKey) → key_of fewer j ≡ Some y → (key_of terms j ≡ Some y) × (j ≡ term → IsUnused net term → ⊥)
+  pub room : terms.room ≤ fewer.room
+  pub size : length fewer.slots ≡ length terms.slots
+
 -- a posting of an object was taken out, and its term where it was the last
 pub record DropsFirst (terms fewer : Keys TermKey) (net less : Net) (object : ℕ) : Type 0 where
   pub term : ℕ
   pub takes : Takes net less object term
-  pub kept : (j : ℕ) (y : TermKey) → key_of terms j ≡ Some y → (j ≡ term → IsUnused less term → ⊥) → key_of fewer j ≡ Some y
-  pub from : (j : ℕ) (y : TermKey) → key_of fewer j ≡ Some y → (key_of terms j ≡ Some y) × (j ≡ term → IsUnused less term → ⊥)
-  pub room : terms.room ≤ fewer.room
-  pub size : length fewer.slots ≡ length terms.slots
+  pub drops : DropsUnused terms fewer less term
+
+-- the posting in a place was taken out, and its term where it was the last
+pub record DropsAt (terms fewer : Keys TermKey) (net less : Net) (place : ℕ) : Type 0 where
+  pub object : ℕ
+  pub first : DropsFirst terms fewer net less object
+  pub at : first.takes.place ≡ place
 
 -- no object is there
 abbrev pub IsEmpty : Contents → Type 0

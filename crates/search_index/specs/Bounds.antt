@@ -1,5 +1,5 @@
 -- Between which terms those with a value that is wanted lie, for the private clauses.
-use Rattle.std.specs.Prelude.{◌≡◌, ◌≢◌, ℕ, Bool, true, false, List, [], ◌∷◌, Option, Some, None}
+use Rattle.std.specs.Prelude.{◌≡◌, ◌≢◌, ◌⊎◌, ◌+◌, ◌++◌, ℕ, Bool, true, false, List, [], ◌∷◌, Option, Some, None}
 use Rattle.std.specs.declared.cmp.Ordering.TheVariants.{Less}
 use Rattle.query_text.specs.declared.term.Wanted.{Wanted}
 use Rattle.query_text.specs.declared.term.Sign.{Sign}
@@ -30,3 +30,8 @@ low_of (Some low) = low
 -- the terms of the field with a value that is wanted lie between the bounds
 abbrev pub IsBounded : List ℕ → Wanted → Bounds → Type 0
 IsBounded field w b = (p : Pair) → p.field ≡ field → IsWanted w p.value → (pair_cmp p (pair field b.low.items) ≢ Less) × (pair_cmp p (pair b.past.items b.high.items) ≡ Less)
+
+-- the bounds begin at a text, and end with its field, or at the text with its last byte one greater
+abbrev pub HoldsFront : List ℕ → List ℕ → Bounds → Type 0
+HoldsFront field front b =
+    (b.low.items ≡ front) × ((b.past.items ≡ field ++ 0 ∷ []) ⊎ ((b.past.items ≡ field) × ((rest : List ℕ) × (last : ℕ) × (front ≡ rest ++ last ∷ []) × (b.high.items ≡ rest ++ (last + 1) ∷ []))))

@@ -1,12 +1,8 @@
 -- Places linked forward and backward, for the private clauses.
-use Rattle.std.specs.Prelude.{◌≡◌, ◌≢◌, ◌⊎◌, ◌↔◌, ℕ, ◌<◌, List, [], ◌∷◌, length, Option, Some, None, slice_get}
+use Rattle.std.specs.Prelude.{◌≡◌, ◌≢◌, ◌↔◌, ℕ, ◌<◌, List, [], ◌∷◌, length, Option, Some, None, slice_get}
+use Rattle.ordered_keys.specs.Numbers.{Among}
 use Rattle.search_index.specs.Posting.{link}
 use Rattle.search_index.specs.declared.posting.Link.{Link}
-
--- the number is one of these
-abbrev pub Among : List ℕ → ℕ → Type 0
-Among [] x = ⊥
-Among (y ∷ ys) x = (y ≡ x) ⊎ Among ys x
 
 -- the links lead from the first place to the others in turn, and then end
 abbrev pub IsPath : (ℕ → Option Link) → Option ℕ → List ℕ → Type 0

@@ -1,7 +1,6 @@
 pub mod Posting
 pub mod Chains
 pub mod Net
-pub mod Keys
 pub mod Scope
 pub mod KeyOrder
 pub mod Arena

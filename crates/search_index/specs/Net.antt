@@ -88,6 +88,12 @@ pub record Takes (old new : Net) (object term : ℕ) : Type 0 where
   pub used : used new + 1 ≡ used old
   pub size : SameSize old new
 
+-- the posting in this place was taken out, which is of this term
+pub record TakesAt (old new : Net) (place term : ℕ) : Type 0 where
+  pub object : ℕ
+  pub takes : Takes old new object term
+  pub at : takes.place ≡ place
+
 -- a posting of this object and this term was put in
 pub record Adds (old new : Net) (object term : ℕ) : Type 0 where
   pub place : ℕ
@@ -99,6 +105,14 @@ pub record Adds (old new : Net) (object term : ℕ) : Type 0 where
 -- some posting says that the object has the term
 abbrev pub Has : Net → ℕ → ℕ → Type 0
 Has net object term = (q : ℕ) × (held net q ≡ Some (object, term))
+
+-- some posting of this owner has that at its other side
+abbrev pub Leads : Side → Slab Posting → ℕ → ℕ → Type 0
+Leads s items owner other = (q : ℕ) × (owners s (pairs items) q ≡ Some owner) × (owners (other_side s) (pairs items) q ≡ Some other)
+
+-- a posting of the object is in the place
+abbrev pub IsOf : Net → ℕ → ℕ → Type 0
+IsOf net object q = (term : ℕ) × (held net q ≡ Some (object, term))
 
 -- no posting is of this object
 abbrev pub HasNone : Net → ℕ → Type 0

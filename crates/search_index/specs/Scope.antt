@@ -5,6 +5,11 @@ use Rattle.std.specs.Ordering.{nat_cmp, ordering_then, eq_by_cmp}
 use Rattle.std.specs.Cmp.{IsTotalOrder, then_total, on_total}
 use Rattle.std.specs.Cmp.Lexicographic.{slice_cmp, nat_list_cmp_total}
 use Rattle.search_index.specs.declared.scope.Scope.{Scope}
+use Rattle.search_index.specs.declared.scope.ScopeAt.{ScopeAt}
+
+-- the scope of these names
+abbrev pub scope_at : ScopeAt → Scope
+scope_at s = record { org = s.org.now; index = s.index.now }
 
 -- scopes are in the order of the bytes of the organisations, and then of the indexes
 abbrev pub scope_cmp : Scope → Scope → Ordering

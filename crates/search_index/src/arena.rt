@@ -1,12 +1,12 @@
 //! Scopes, objects and terms under numbers, and the postings between them.
-ghost use Rattle.std.specs.Prelude.{◌≡◌, ◌+◌, ◌<◌, ◌≤◌, MatchBool, length};
-ghost use Rattle.search_index.specs.Arena.{AddsTerm, DropsFirst, TermsThere};
-ghost use Rattle.search_index.specs.Keys.{IsOnce};
-ghost use Rattle.search_index.specs.Net.{HasNone, used};
+ghost use Rattle.std.specs.Prelude.{◌≡◌, ◌⊎◌, ◌+◌, ◌<◌, ◌≤◌, IsSome, MatchBool, None, length};
+ghost use Rattle.search_index.specs.Arena.{AddsTerm, DropsAt, DropsFirst, DropsUnused, TermsThere};
+ghost use Rattle.ordered_keys.specs.Keys.{IsOnce, key_of};
+ghost use Rattle.search_index.specs.Net.{HasNone, held, used};
 
 use crate::key::TermKey;
-use crate::ordered::Ordered;
 use crate::postings::Postings;
+use ordered_keys::Ordered;
 
 /// Puts in that an object has a term, and the term where it isn't there.
 pub(crate) fn add(
@@ -35,11 +35,32 @@ pub(crate) fn drop_first(
     requires { TermsThere terms.old postings.old }
     ensures { MatchBool result (DropsFirst terms.old terms.new postings.old postings.new object) ((terms.new ≡ terms.old) × (postings.new ≡ postings.old) × HasNone postings.old object) }
 {
-    let Some(term) = postings.take(object) else {
-        return false;
-    };
+    match postings.take(object) {
+        Some(term) => {
+            drop_unused(terms, postings, term);
+            true
+        }
+        None => false,
+    }
+}
+
+/// Takes out the posting in a place, and its term where that has no other. Where there is none, nothing changes.
+pub(crate) fn drop_at(terms: &mut Ordered<TermKey>, postings: &mut Postings, place: usize)
+    requires { TermsThere terms.old postings.old }
+    ensures { DropsAt terms.old terms.new postings.old postings.new place ⊎ ((terms.new ≡ terms.old) × (postings.new ≡ postings.old) × (held postings.old place ≡ None)) }
+{
+    if postings.is_taken(place) {
+        let term = postings.take_at(place);
+        drop_unused(terms, postings, term);
+    }
+}
+
+/// Takes out a term that no posting is of.
+fn drop_unused(terms: &mut Ordered<TermKey>, postings: &Postings, term: usize)
+    requires { IsSome (key_of terms.old term) }
+    ensures { DropsUnused terms.old terms.new postings.now term }
+{
     if postings.is_unused(term) {
         terms.remove(term);
     }
-    true
 }

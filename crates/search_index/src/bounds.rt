@@ -1,7 +1,7 @@
 //! Between which terms of a field those with a value that is wanted lie.
 ghost use Rattle.std.specs.Prelude.{◌≡◌, ◌++◌, ◌∷◌, [], IfOk, List, ℕ};
 ghost use Rattle.query_text.specs.declared.term.Wanted.TheVariants as wanted;
-ghost use Rattle.search_index.specs.Bounds.{IsBounded, front_of, is_plain, low_of};
+ghost use Rattle.search_index.specs.Bounds.{HoldsFront, IsBounded, front_of, is_plain, low_of};
 
 use doc_tree::NoMemory;
 use query_text::{Range, Sign, Wanted};
@@ -16,8 +16,8 @@ pub(crate) struct Bounds {
     pub(crate) high: Vec<u8>,
 }
 
-/// The bounds of the terms of a field with a value that is wanted: one term alone where that is one text, and else from a
-/// fixed beginning or a lower bound on.
+/// The bounds of the terms of a field with a value that is wanted: one term alone where that is one text, those with a fixed
+/// beginning, or those of a range.
 pub(crate) fn bounds_of(alloc: Global, field: &[u8], wanted: &Wanted) -> Result<Bounds, NoMemory>
     ensures { IfOk result (IsBounded field.now wanted.now) }
 {
@@ -25,6 +25,15 @@ pub(crate) fn bounds_of(alloc: Global, field: &[u8], wanted: &Wanted) -> Result<
         Wanted::Equal(text) => at(alloc, field, text.as_slice(), text.as_slice()),
         Wanted::Like(signs) => like(alloc, field, signs.as_slice()),
         Wanted::Between(range) => between(alloc, field, range),
+    }
+}
+
+/// Whether one value alone can be wanted.
+pub(crate) fn is_one(wanted: &Wanted) -> bool {
+    match wanted {
+        Wanted::Equal(_) => true,
+        Wanted::Like(signs) => is_plain(signs.as_slice()),
+        Wanted::Between(_) => false,
     }
 }
 
@@ -66,8 +75,28 @@ fn like(alloc: Global, field: &[u8], signs: &[Sign]) -> Result<Bounds, NoMemory>
     if is_plain(signs) {
         at(alloc, field, &front, &front)
     } else {
-        from(alloc, field, &front)
+        begun(alloc, field, &front)
     }
+}
+
+/// The bounds of the values that begin so: up to the least text that is greater than all of them, where there is one.
+fn begun(alloc: Global, field: &[u8], front: &[u8]) -> Result<Bounds, NoMemory>
+    ensures { IfOk result (HoldsFront field.now front.now) }
+{
+    let Some(place) = front.len().checked_sub(1) else {
+        return from(alloc, field, front);
+    };
+    let last = front[place];
+    if last == u8::MAX {
+        return from(alloc, field, front);
+    }
+    let mut high = Vec::from_slice(alloc, &front[..place])?;
+    high.push(last + 1)?;
+    Ok(Bounds {
+        low: Vec::from_slice(alloc, front)?,
+        past: Vec::from_slice(alloc, field)?,
+        high,
+    })
 }
 
 /// The bytes with which the signs begin.

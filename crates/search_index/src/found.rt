@@ -33,6 +33,15 @@ impl Numbers {
         Numbers { items }
     }
 
+    /// The same numbers.
+    pub(crate) fn copy(&self, alloc: Global) -> Result<Numbers, NoMemory>
+        ensures { IfOk result (λ numbers. numbers ≡ self.now) }
+    {
+        Ok(Numbers {
+            items: Vec::from_slice(alloc, &self.items)?,
+        })
+    }
+
     /// Whether it has a number.
     pub(crate) fn has(&self, number: usize) -> bool
         ensures { result ≡ is_in self.now number }
@@ -71,6 +80,16 @@ impl Found {
             others: true,
             numbers: Numbers::of(Vec::new(alloc)),
         }
+    }
+
+    /// The same objects.
+    pub(crate) fn copy(&self, alloc: Global) -> Result<Found, NoMemory>
+        ensures { IfOk result (λ found. (x : ℕ) → has found x ≡ has self.now x) }
+    {
+        Ok(Found {
+            others: self.others,
+            numbers: self.numbers.copy(alloc)?,
+        })
     }
 
     /// The objects that aren't among these.

@@ -1,23 +1,26 @@
 //! The index.
-ghost use Rattle.std.specs.Prelude.{◌≡◌, ◌≢◌, ◌↔◌, ◌+◌, ◌≤◌, ℕ, List, IfOk, IsTrue, OnOk, Some, [], length};
+ghost use Rattle.std.specs.Prelude.{◌≡◌, ◌≢◌, ◌↔◌, ◌+◌, ◌≤◌, ℕ, List, IfOk, IfSome, IsTrue, OnOk, Some, [], length};
 ghost use Rattle.std.specs.Cmp.Lexicographic.{slice_cmp};
 ghost use Rattle.std.specs.List.Sorted.{IsStrictlySortedBy};
 ghost use Rattle.std.specs.Ordering.{nat_cmp};
 ghost use Rattle.search_query.specs.Matching.{Meets};
 ghost use Rattle.search_query.specs.Pair.{Pair};
 ghost use Rattle.search_index.specs.Names.{lists_name};
-ghost use Rattle.search_index.specs.Arena.{AddsObject, DropsObject, HasObject, HasRoom, LosesRoom, SameObjects};
-ghost use Rattle.search_index.specs.Keys.{key_of};
+ghost use Rattle.search_index.specs.Scope.{scope_at};
+ghost use Rattle.search_index.specs.Arena.{AddsObject, ArePlaces, DropsObject, HasObject, HasRoom, LosesRoom, ReplacesObject, SameObjects};
+ghost use Rattle.search_index.specs.declared.scope.Scope.{Scope as ScopeKey};
+ghost use Rattle.ordered_keys.specs.Keys.{key_of};
 ghost use Rattle.search_index.specs.declared.key.ObjectKey.{ObjectKey as Key};
 
-use crate::arena::{add, drop_first};
+use crate::arena::{add, drop_at, drop_first};
+use crate::found::Found;
 use crate::key::{ObjectAt, ObjectKey, TermKey};
 use crate::names::{in_order, names_of};
-use crate::ordered::{Ordered, Whole};
 use crate::postings::Postings;
-use crate::scope::Scope;
+use crate::scope::{Scope, ScopeAt};
 use crate::seek::any;
 use doc_tree::{NoMemory, Text, Texts};
+use ordered_keys::Ordered;
 use query_text::Query;
 use search_query::Pairs;
 use std::alloc::Global;
@@ -31,6 +34,14 @@ pub struct Index {
     objects: Ordered<ObjectKey>,
     terms: Ordered<TermKey>,
     postings: Postings,
+}
+
+/// Where an object stands: the numbers of its scope and its own, and the places of its postings.
+#[derive(Drop)]
+struct OldPlaces {
+    scope: usize,
+    object: usize,
+    places: Vec<usize>,
 }
 
 impl Model for Index {
@@ -107,12 +118,83 @@ impl Index {
         }
     }
 
+    /// Puts in an object with its pairs, in the place of the one that is there, if it is. It can't fail: where there is
+    /// memory for a list of the object's postings, the terms that it keeps stay where they are, which costs less.
+    pub fn replace(&mut self, scope: Scope, name: Text, pairs: Pairs)
+        requires room { HasRoom self.old 1 (length pairs) (length pairs) }
+        ensures replaces { ReplacesObject self.old self.new scope name pairs }
+        ensures room { LosesRoom self.old self.new 1 (length pairs) (length pairs) }
+    {
+        let at = ScopeAt {
+            org: &scope.org,
+            index: &scope.index,
+        };
+        match self.old_places(at, &name) {
+            Some(old) => self.change(old, pairs),
+            None => {
+                self.remove(at, &name);
+                self.insert(scope, name, pairs);
+            }
+        }
+    }
+
+    /// Where an object stands, if it is there and there is memory for the list of its postings.
+    fn old_places(&self, scope: ScopeAt, name: &Text) -> Option<OldPlaces>
+        ensures { IfSome result (λ old. ArePlaces self.now (scope_at scope.entry) name.now old.scope old.object old.places.items) }
+    {
+        let Some(number) = self.scopes.find(&scope) else {
+            return None;
+        };
+        let sought = ObjectAt {
+            scope: number,
+            name: name.as_bytes(),
+        };
+        let Some(object) = self.objects.find(&sought) else {
+            return None;
+        };
+        match self.postings.places_of(object) {
+            Ok(places) => Some(OldPlaces {
+                scope: number,
+                object,
+                places,
+            }),
+            Err(NoMemory) => None,
+        }
+    }
+
+    /// Gives an object its new pairs, and then takes out its old postings.
+    fn change(&mut self, old: OldPlaces, pairs: Pairs)
+        requires places { (scope : ScopeKey) × (name : List ℕ) × ArePlaces self.old scope name old.scope old.object old.places.items }
+        requires room { HasRoom self.old 1 (length pairs) (length pairs) }
+        ensures replaces { (scope : ScopeKey) (name : List ℕ) → ArePlaces self.old scope name old.scope old.object old.places.items → ReplacesObject self.old self.new scope name pairs }
+        ensures room { LosesRoom self.old self.new 1 (length pairs) (length pairs) }
+    {
+        let OldPlaces {
+            scope,
+            object,
+            places,
+        } = old;
+        let mut left = pairs.into_vec();
+        while let Some(pair) = left.pop() {
+            add(
+                &mut self.terms,
+                &mut self.postings,
+                object,
+                TermKey { scope, pair },
+            );
+        }
+        let mut places = places;
+        while let Some(place) = places.pop() {
+            drop_at(&mut self.terms, &mut self.postings, place);
+        }
+    }
+
     /// Takes out an object with its pairs, where it is there. It takes no memory.
-    pub fn remove(&mut self, scope: &Scope, name: &Text)
-        ensures drops { DropsObject self.old self.new scope.now name.now }
+    pub fn remove(&mut self, scope: ScopeAt, name: &Text)
+        ensures drops { DropsObject self.old self.new (scope_at scope.entry) name.now }
         ensures room { LosesRoom self.old self.new 0 0 0 }
     {
-        let Some(number) = self.scopes.find(&Whole(scope)) else {
+        let Some(number) = self.scopes.find(&scope) else {
             return;
         };
         let sought = ObjectAt {
@@ -134,16 +216,17 @@ impl Index {
     ghost use Rattle.search_index.specs.Arena.{ArePairs};
 
     /// The names of the objects of a scope whose pairs meet a query, in the order of their bytes, each once.
-    pub fn find(&self, alloc: Global, scope: &Scope, query: &Query) -> Result<Texts, NoMemory>
-        ensures found { IfOk result (λ names. (name : List ℕ) (pairs : List Pair) → HasObject self.now scope.now name → ArePairs self.now scope.now name pairs → IsTrue (lists_name names name) ↔ Meets query.now pairs) }
-        ensures objects { IfOk result (λ names. (name : List ℕ) → IsTrue (lists_name names name) → HasObject self.now scope.now name) }
+    pub fn find(&self, alloc: Global, scope: ScopeAt, query: &Query) -> Result<Texts, NoMemory>
+        ensures found { IfOk result (λ names. (name : List ℕ) (pairs : List Pair) → HasObject self.now (scope_at scope.entry) name → ArePairs self.now (scope_at scope.entry) name pairs → IsTrue (lists_name names name) ↔ Meets query.now pairs) }
+        ensures objects { IfOk result (λ names. (name : List ℕ) → IsTrue (lists_name names name) → HasObject self.now (scope_at scope.entry) name) }
         ensures rising { IfOk result (IsStrictlySortedBy (slice_cmp nat_cmp)) }
     {
-        let Some(number) = self.scopes.find(&Whole(scope)) else {
+        let Some(number) = self.scopes.find(&scope) else {
             return Ok(in_order(Vec::new(alloc)));
         };
         let next = self.scopes.after(number);
-        let found = any(alloc, &self.terms, &self.postings, number, query)?;
+        let every = Found::every(alloc);
+        let found = any(alloc, &self.terms, &self.postings, number, &every, query)?;
         let names = names_of(alloc, &self.objects, number, next, &found)?;
         Ok(in_order(names))
     }
@@ -164,5 +247,5 @@ fn is_empty(objects: &Ordered<ObjectKey>, number: usize) -> bool
         scope: next,
         name: &[],
     };
-    objects.between(&low, &high).is_empty()
+    !objects.has_between(&low, &high)
 }

@@ -3,8 +3,8 @@ ghost use Rattle.std.specs.Cmp.{eq_by_cmp_equiv, partial_equiv_from_equiv, parti
 ghost use Rattle.std.specs.Prelude.{◌≡◌, IfOk, Some, refl};
 ghost use Rattle.search_index.specs.KeyOrder.{object_cmp, object_cmp_total, object_key, same_object, same_term, term_cmp, term_cmp_total, term_key};
 
-use crate::ordered::Probe;
 use doc_tree::Text;
+use ordered_keys::Probe;
 use search_query::Pair;
 use std::cmp::Ordering;
 

@@ -3,17 +3,15 @@
 
 mod arena;
 mod bounds;
+mod fields;
 mod found;
 mod index;
 mod key;
 mod names;
-mod ordered;
 mod posting;
 mod postings;
 mod scope;
 mod seek;
-#[cfg(test)]
-mod tests;
 
 pub use index::Index;
-pub use scope::Scope;
+pub use scope::{Scope, ScopeAt};

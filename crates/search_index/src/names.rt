@@ -4,20 +4,21 @@ ghost use Rattle.std.specs.Cmp.Lexicographic.{slice_cmp};
 ghost use Rattle.std.specs.List.Sorted.{IsStrictlySortedBy};
 ghost use Rattle.std.specs.Ordering.{nat_cmp};
 ghost use Rattle.search_index.specs.declared.key.ObjectKey.{ObjectKey as Key};
-ghost use Rattle.search_index.specs.Chains.{Among};
+ghost use Rattle.ordered_keys.specs.Numbers.{Among};
 ghost use Rattle.search_index.specs.Found.{has};
 ghost use Rattle.search_index.specs.KeyOrder.{object_key};
-ghost use Rattle.search_index.specs.Keys.{key_of};
+ghost use Rattle.ordered_keys.specs.Keys.{key_of};
 ghost use Rattle.search_index.specs.Names.{lists_name};
 ghost use Rattle.search_index.specs.Seeking.{AreNames};
 
 use crate::found::Found;
 use crate::key::{ObjectAt, ObjectKey};
-use crate::ordered::Ordered;
 use doc_tree::{NoMemory, Text, Texts};
+use ordered_keys::Ordered;
 use std::alloc::Global;
 
-/// The names of the objects of a scope that were found, in any order. `next` is the number behind the scope's.
+/// The names of the objects of a scope that were found, in any order. `next` is the number behind the scope's. Where all
+/// but some were found the objects of the scope are gone through, and else those that were found.
 pub(crate) fn names_of(
     alloc: Global,
     objects: &Ordered<ObjectKey>,
@@ -28,8 +29,31 @@ pub(crate) fn names_of(
     requires { next ≡ scope + 1 }
     ensures { IfOk result (λ names. AreNames objects.now scope found.now names.items) }
 {
+    if !found.others {
+        return names_among(alloc, objects, scope, found.numbers.as_slice(), found);
+    }
+    let low = ObjectAt { scope, name: &[] };
+    let high = ObjectAt {
+        scope: next,
+        name: &[],
+    };
+    let numbers = objects.between(alloc, &low, &high)?;
+    names_among(alloc, objects, scope, &numbers, found)
+}
+
+/// The names of the objects of a scope that were found, which are among these.
+fn names_among(
+    alloc: Global,
+    objects: &Ordered<ObjectKey>,
+    scope: usize,
+    numbers: &[usize],
+    found: &Found,
+) -> Result<Vec<Text>, NoMemory>
+    requires { (i : ℕ) (x : Key) → key_of objects.now i ≡ Some x → x.scope ≡ scope → IsTrue (has found.now i) → Among numbers.now i }
+    ensures { IfOk result (λ names. AreNames objects.now scope found.now names.items) }
+{
     let mut names = Vec::new(alloc);
-    for number in walked(objects, scope, next, found) {
+    for number in numbers {
         if found.has(*number) {
             if let Some(name) = name_in(objects, scope, *number) {
                 names.push(name.copy(alloc)?)?;
@@ -37,28 +61,6 @@ pub(crate) fn names_of(
         }
     }
     Ok(names)
-}
-
-/// The objects among which those that were found are: all of the scope, or a list.
-fn walked<'a>(
-    objects: &'a Ordered<ObjectKey>,
-    scope: usize,
-    next: usize,
-    found: &'a Found,
-) -> &'a [usize]
-    requires { next ≡ scope + 1 }
-    ensures { (i : ℕ) (x : Key) → key_of objects.now i ≡ Some x → x.scope ≡ scope → IsTrue (has found.now i) → Among result.now i }
-{
-    if found.others {
-        let low = ObjectAt { scope, name: &[] };
-        let high = ObjectAt {
-            scope: next,
-            name: &[],
-        };
-        objects.between(&low, &high)
-    } else {
-        found.numbers.as_slice()
-    }
 }
 
 /// The name of an object of a scope.

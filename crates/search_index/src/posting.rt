@@ -1,6 +1,6 @@
 //! A posting, and its neighbours in its two chains.
 ghost use Rattle.std.specs.Prelude.{◌≡◌};
-ghost use Rattle.search_index.specs.Posting.{link_of, owner_of, with_before, with_next};
+ghost use Rattle.search_index.specs.Posting.{link_of, other_side, owner_of, with_before, with_next};
 
 /// The neighbours of a posting in a chain, by their places.
 #[derive(Clone, Copy, Drop)]
@@ -16,6 +16,18 @@ pub(crate) enum Side {
     Term,
     /// The chain of an object.
     Object,
+}
+
+impl Side {
+    /// The other chain.
+    pub(crate) fn other(self) -> Side
+        ensures { result ≡ other_side self }
+    {
+        match self {
+            Side::Term => Side::Object,
+            Side::Object => Side::Term,
+        }
+    }
 }
 
 /// That an object has a term, both by their numbers.

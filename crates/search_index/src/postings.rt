@@ -1,8 +1,9 @@
 //! Postings in one arena: each stands in the chain of its object and in that of its term.
-ghost use Rattle.std.specs.Prelude.{◌≡◌, ◌+◌, ◌<◌, ◌≤◌, ◌↔◌, IfOk, OnOk, IsTrue, MatchOption, None, ℕ, [], length, slice_index_or};
+ghost use Rattle.std.specs.Prelude.{◌≡◌, ◌+◌, ◌<◌, ◌≤◌, ◌↔◌, ℕ, IfOk, IsSome, IsTrue, OnOk, MatchOption, None, [], length, slice_index_or};
 ghost use Rattle.slab.specs.Slab.{ContainsKey};
-ghost use Rattle.search_index.specs.Chains.{Among, IsLinked};
-ghost use Rattle.search_index.specs.Net.{Adds, Has, HasNone, IsUnused, IsWide, Pads, Takes, Unlinks, Widens, changed_at, heads_without, links, owners, pairs, used};
+ghost use Rattle.ordered_keys.specs.Numbers.{Among};
+ghost use Rattle.search_index.specs.Chains.{IsLinked};
+ghost use Rattle.search_index.specs.Net.{Adds, Has, HasNone, IsOf, IsUnused, IsWide, Leads, Pads, Takes, TakesAt, Unlinks, Widens, changed_at, heads_without, held, links, owners, pairs, used};
 ghost use Rattle.search_index.specs.Posting.{with_before, with_next};
 
 use crate::posting::{Link, Posting, Side};
@@ -95,14 +96,42 @@ impl Postings {
     pub(crate) fn take(&mut self, object: usize) -> Option<usize>
         ensures { MatchOption result ((self.new ≡ self.old) × HasNone self.old object) (λ term. Takes self.old self.new object term) }
     {
-        let Some(place) = first_of(&self.objects, object) else {
-            return None;
-        };
+        match first_of(&self.objects, object) {
+            Some(place) => Some(self.take_at(place)),
+            None => None,
+        }
+    }
+
+    /// Takes out the posting in a place, and gives its term.
+    pub(crate) fn take_at(&mut self, place: usize) -> usize
+        requires { IsSome (held self.old place) }
+        ensures { TakesAt self.old self.new place result }
+    {
         let posting = self.items[place];
         unlink(&mut self.items, &mut self.terms, Side::Term, place);
         unlink(&mut self.items, &mut self.objects, Side::Object, place);
         self.items.remove(place);
-        Some(posting.term)
+        posting.term
+    }
+
+    /// Whether a posting is in a place.
+    pub(crate) fn is_taken(&self, place: usize) -> bool
+        ensures { IsTrue result ↔ IsSome (held self.now place) }
+    {
+        self.items.get(place).is_some()
+    }
+
+    /// The places of the postings of an object, in the order of its chain.
+    pub(crate) fn places_of(&self, object: usize) -> Result<Vec<usize>, NoMemory>
+        ensures { IfOk result (λ found. (q : ℕ) → Among found.items q ↔ IsOf self.now object q) }
+    {
+        let mut found = Vec::new(*self.objects.allocator());
+        let mut at = first_of(&self.objects, object);
+        while let Some(place) = at {
+            found.push(place)?;
+            at = self.items[place].of_object.next;
+        }
+        Ok(found)
     }
 
     /// Whether no object has a term.
@@ -116,15 +145,97 @@ impl Postings {
     pub(crate) fn objects_of(&self, alloc: Global, term: usize) -> Result<Vec<usize>, NoMemory>
         ensures { IfOk result (λ found. (object : ℕ) → Among found.items object ↔ Has self.now object term) }
     {
-        let mut found = Vec::new(alloc);
-        let mut at = first_of(&self.terms, term);
-        while let Some(place) = at {
-            let posting = self.items[place];
-            found.push(posting.object)?;
-            at = posting.of_term.next;
-        }
-        Ok(found)
+        others_of(alloc, &self.items, &self.terms, Side::Term, term)
     }
+
+    /// The terms that an object has, in the order of its chain.
+    pub(crate) fn terms_of(&self, alloc: Global, object: usize) -> Result<Vec<usize>, NoMemory>
+        ensures { IfOk result (λ found. (term : ℕ) → Among found.items term ↔ Has self.now object term) }
+    {
+        others_of(alloc, &self.items, &self.objects, Side::Object, object)
+    }
+
+    /// Whether more objects than this have a term.
+    pub(crate) fn is_longer(&self, term: usize, limit: usize) -> bool {
+        let mut at = first_of(&self.terms, term);
+        for _ in 0..limit {
+            at = self.behind(at);
+        }
+        at.is_some()
+    }
+
+    /// Which of some terms the fewest objects have, where that is no more than this: their chains are gone along side by
+    /// side until one ends. A term that isn't there has none.
+    pub(crate) fn rarest(
+        &self,
+        alloc: Global,
+        terms: &[Option<usize>],
+        limit: usize,
+    ) -> Result<Option<usize>, NoMemory> {
+        let mut chains = Vec::new(alloc);
+        for term in terms {
+            chains.push(self.first_place(*term))?;
+        }
+        for _ in 0..=limit {
+            if let Some(ended) = ended(&chains) {
+                return Ok(Some(ended));
+            }
+            for at in chains.iter_mut() {
+                *at = self.behind(*at);
+            }
+        }
+        Ok(None)
+    }
+
+    /// The first place in the chain of a term.
+    fn first_place(&self, term: Option<usize>) -> Option<usize> {
+        match term {
+            Some(term) => first_of(&self.terms, term),
+            None => None,
+        }
+    }
+
+    /// The place behind another in the chain of its term.
+    fn behind(&self, place: Option<usize>) -> Option<usize> {
+        match place {
+            Some(place) => match self.items.get(place) {
+                Some(posting) => posting.of_term.next,
+                None => None,
+            },
+            None => None,
+        }
+    }
+}
+
+/// The first chain that is at its end.
+fn ended(chains: &[Option<usize>]) -> Option<usize> {
+    for (number, at) in chains.iter().enumerate() {
+        if at.is_none() {
+            return Some(number);
+        }
+    }
+    None
+}
+
+/// What stands at the other side of each posting of an owner, in the order of its chain.
+fn others_of(
+    alloc: Global,
+    items: &Slab<Posting>,
+    heads: &[Option<usize>],
+    side: Side,
+    owner: usize,
+) -> Result<Vec<usize>, NoMemory>
+    requires { IsLinked (links side items.now) (owners side (pairs items.now)) heads.now }
+    ensures { IfOk result (λ found. (other : ℕ) → Among found.items other ↔ Leads side items.now owner other) }
+{
+    let mut found = Vec::new(alloc);
+    let mut at = first_of(heads, owner);
+    while let Some(place) = at {
+        let posting = items[place];
+        found.push(posting.owner(side.other()))?;
+        at = posting.link(side).next;
+    }
+    Ok(found)
 }
 
 /// Lets so many owners have a chain.

@@ -1,9 +1,10 @@
 //! Whose objects a search looks among: an organisation and one of its indexes.
 ghost use Rattle.std.specs.Cmp.{eq_by_cmp_equiv, partial_equiv_from_equiv, partial_order_from_total};
 ghost use Rattle.std.specs.Prelude.{◌≡◌, IfOk, Some, refl};
-ghost use Rattle.search_index.specs.Scope.{same_scope, scope_cmp, scope_cmp_total};
+ghost use Rattle.search_index.specs.Scope.{same_scope, scope_at, scope_cmp, scope_cmp_total};
 
 use doc_tree::Text;
+use ordered_keys::Probe;
 use std::cmp::Ordering;
 
 /// An organisation and one of its indexes, by their names. Scopes are in the order of the bytes of the organisations, and
@@ -51,5 +52,22 @@ impl Ord for Scope {
 
     fn cmp(&self, other: &Self) -> Ordering {
         self.org.cmp(&other.org).then(self.index.cmp(&other.index))
+    }
+}
+
+/// An organisation and one of its indexes, by borrowed names.
+#[derive(Clone, Copy)]
+pub struct ScopeAt<'a> {
+    /// The organisation.
+    pub org: &'a Text,
+    /// The index.
+    pub index: &'a Text,
+}
+
+impl<'a> Probe<Scope> for ScopeAt<'a> {
+    ghost sought = { scope_at };
+
+    fn order_of(&self, key: &Scope) -> Ordering {
+        key.org.cmp(self.org).then(key.index.cmp(self.index))
     }
 }

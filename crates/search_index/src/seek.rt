@@ -1,36 +1,38 @@
 //! The objects of a scope that a query finds.
 ghost use Rattle.query_text.specs.Items.{what_of};
+ghost use Rattle.query_text.specs.Query.{ands_of};
 ghost use Rattle.search_query.specs.Matching.{Meets, MeetsAll, MeetsItem, MeetsTerm, turned};
-ghost use Rattle.std.specs.Prelude.{◌≡◌, ◌↔◌, ℕ, IfOk, IsSome, IsTrue};
-ghost use Rattle.search_index.specs.Found.{has, is_in};
-ghost use Rattle.search_index.specs.Keys.{key_of};
-ghost use Rattle.search_index.specs.Net.{Has};
-ghost use Rattle.search_index.specs.Seeking.{Finds, Gives};
+ghost use Rattle.std.specs.Prelude.{◌≡◌, ◌↔◌, ℕ, IfOk, IsTrue};
+ghost use Rattle.search_index.specs.Found.{has};
+ghost use Rattle.search_index.specs.Seeking.{Finds, Spares};
 
-use crate::bounds::bounds_of;
-use crate::found::{Found, Numbers, both};
-use crate::key::{TermAt, TermKey};
-use crate::ordered::Ordered;
+use crate::fields::{number_of_one, with_field};
+use crate::found::{Found, both};
+use crate::key::TermKey;
 use crate::postings::Postings;
 use doc_tree::NoMemory;
-use query_text::{AllOf, Item, Query, Term, Wanted, What};
-use search_query::is_wanted;
+use ordered_keys::Ordered;
+use query_text::{AllOf, Item, Query, Term, What};
 use std::alloc::Global;
 
-/// The objects of a scope that a query finds: those that aren't among the missing of each of its parts.
+// An AND begins with the term that the fewest objects have, where they are no more than so many.
+const FEW: usize = 1_000;
+
+/// The objects of a scope that a query finds among some: those that aren't among the missing of each of its parts.
 #[cycle(seek)]
 pub(crate) fn any(
     alloc: Global,
     terms: &Ordered<TermKey>,
     postings: &Postings,
     scope: usize,
+    among: &Found,
     query: &Query,
 ) -> Result<Found, NoMemory>
-    ensures { IfOk result (Finds terms.now postings.now scope (Meets query.now)) }
+    ensures { IfOk result (Finds terms.now postings.now scope among.now (Meets query.now)) }
 {
     let mut missing = Found::every(alloc);
     for all_of in query.any_of() {
-        let part = all(alloc, terms, postings, scope, all_of)?;
+        let part = all(alloc, terms, postings, scope, among, all_of)?;
         missing = both(alloc, missing, part.turned())?;
     }
     Ok(missing.turned())
@@ -42,13 +44,15 @@ fn all(
     terms: &Ordered<TermKey>,
     postings: &Postings,
     scope: usize,
+    among: &Found,
     all_of: &AllOf,
 ) -> Result<Found, NoMemory>
-    ensures { IfOk result (Finds terms.now postings.now scope (MeetsAll all_of.now)) }
+    ensures { IfOk result (Finds terms.now postings.now scope among.now (MeetsAll all_of.now)) }
 {
-    let mut found = Found::every(alloc);
-    for item in all_of.items() {
-        let part = one(alloc, terms, postings, scope, item)?;
+    let items = all_of.items();
+    let mut found = begun(alloc, terms, postings, scope, among, items)?;
+    for item in items {
+        let part = one(alloc, terms, postings, scope, &found, item)?;
         found = both(alloc, found, part)?;
     }
     Ok(found)
@@ -60,12 +64,13 @@ fn one(
     terms: &Ordered<TermKey>,
     postings: &Postings,
     scope: usize,
+    among: &Found,
     item: &Item,
 ) -> Result<Found, NoMemory>
-    ensures { IfOk result (Finds terms.now postings.now scope (MeetsItem item.now)) }
+    ensures { IfOk result (Finds terms.now postings.now scope among.now (MeetsItem item.now)) }
 {
     let (nots, what) = item.parts();
-    let found = plain(alloc, terms, postings, scope, what)?;
+    let found = plain(alloc, terms, postings, scope, among, what)?;
     Ok(turned(nots, found))
 }
 
@@ -75,13 +80,76 @@ fn plain(
     terms: &Ordered<TermKey>,
     postings: &Postings,
     scope: usize,
+    among: &Found,
     what: &What,
 ) -> Result<Found, NoMemory>
-    ensures { IfOk result (Finds terms.now postings.now scope (MeetsItem (what_of what.now))) }
+    ensures { IfOk result (Finds terms.now postings.now scope among.now (MeetsItem (what_of what.now))) }
 {
     match what {
-        What::Term(term) => of_term(alloc, terms, postings, scope, term),
-        What::Group(query) => any(alloc, terms, postings, scope, query),
+        What::Term(term) => of_term(alloc, terms, postings, scope, among, term),
+        What::Group(query) => any(alloc, terms, postings, scope, among, query),
+    }
+}
+
+/// What an AND begins with: the objects of the term that the fewest have, where these are known to be few, or else those
+/// among which it looks.
+fn begun(
+    alloc: Global,
+    terms: &Ordered<TermKey>,
+    postings: &Postings,
+    scope: usize,
+    among: &Found,
+    items: &[Item],
+) -> Result<Found, NoMemory>
+    ensures { IfOk result (Spares terms.now postings.now scope among.now (MeetsAll (ands_of items.now))) }
+{
+    let Some(place) = rarest(alloc, terms, postings, scope, items)? else {
+        return among.copy(alloc);
+    };
+    match items.get(place) {
+        Some(item) => begun_with(alloc, terms, postings, scope, among, item),
+        None => among.copy(alloc),
+    }
+}
+
+/// The objects of a term that no NOT stands before, or else those among which is looked.
+fn begun_with(
+    alloc: Global,
+    terms: &Ordered<TermKey>,
+    postings: &Postings,
+    scope: usize,
+    among: &Found,
+    item: &Item,
+) -> Result<Found, NoMemory>
+    ensures { IfOk result (Spares terms.now postings.now scope among.now (MeetsItem item.now)) }
+{
+    match item.parts() {
+        (0, What::Term(term)) => of_term(alloc, terms, postings, scope, among, term),
+        _ => among.copy(alloc),
+    }
+}
+
+/// The place of the item that the fewest objects meet, of those that ask for one value, where they are no more than `FEW`.
+fn rarest(
+    alloc: Global,
+    terms: &Ordered<TermKey>,
+    postings: &Postings,
+    scope: usize,
+    items: &[Item],
+) -> Result<Option<usize>, NoMemory> {
+    let mut places = Vec::new(alloc);
+    let mut numbers = Vec::new(alloc);
+    for (place, item) in items.iter().enumerate() {
+        if let (0, What::Term(Term::AtField(field, wanted))) = item.parts() {
+            if let Some(number) = number_of_one(alloc, terms, scope, field.as_slice(), wanted)? {
+                places.push(place)?;
+                numbers.push(number)?;
+            }
+        }
+    }
+    match postings.rarest(alloc, &numbers, FEW)? {
+        Some(at) => Ok(places.get(at).copied()),
+        None => Ok(None),
     }
 }
 
@@ -101,63 +169,24 @@ fn of_term(
     terms: &Ordered<TermKey>,
     postings: &Postings,
     scope: usize,
+    among: &Found,
     term: &Term,
 ) -> Result<Found, NoMemory>
-    ensures { IfOk result (Finds terms.now postings.now scope (MeetsTerm term.now)) }
+    ensures { IfOk result (Finds terms.now postings.now scope among.now (MeetsTerm term.now)) }
 {
     match term {
         Term::Every => Ok(Found::every(alloc)),
         Term::AtField(field, wanted) => Ok(Found {
             others: false,
-            numbers: at_field(alloc, terms, postings, scope, field.as_slice(), wanted)?,
+            numbers: with_field(
+                alloc,
+                terms,
+                postings,
+                scope,
+                among,
+                field.as_slice(),
+                wanted,
+            )?,
         }),
     }
-}
-
-/// The objects with a wanted value at a field: the terms of the field stand side by side, and are gone through from one
-/// bound to the other.
-fn at_field(
-    alloc: Global,
-    terms: &Ordered<TermKey>,
-    postings: &Postings,
-    scope: usize,
-    field: &[u8],
-    wanted: &Wanted,
-) -> Result<Numbers, NoMemory>
-    ensures { IfOk result (λ numbers. (x : ℕ) → IsTrue (is_in numbers x) ↔ ((j : ℕ) × Gives terms.now scope field.now wanted.now j × Has postings.now x j)) }
-{
-    let bounds = bounds_of(alloc, field, wanted)?;
-    let low = TermAt {
-        scope,
-        field,
-        value: &bounds.low,
-    };
-    let high = TermAt {
-        scope,
-        field: &bounds.past,
-        value: &bounds.high,
-    };
-    let mut found = Vec::new(alloc);
-    for term in terms.between(&low, &high) {
-        if gives(terms, *term, scope, field, wanted) {
-            let objects = postings.objects_of(alloc, *term)?;
-            found.extend_from_slice(&objects)?;
-        }
-    }
-    Ok(Numbers::of(found))
-}
-
-/// Whether a term is of this scope and field, with a wanted value.
-fn gives(
-    terms: &Ordered<TermKey>,
-    number: usize,
-    scope: usize,
-    field: &[u8],
-    wanted: &Wanted,
-) -> bool
-    requires { IsSome (key_of terms.now number) }
-    ensures { IsTrue result ↔ Gives terms.now scope field.now wanted.now number }
-{
-    let key = terms.key(number);
-    key.scope == scope && key.pair.field() == field && is_wanted(wanted, key.pair.value())
 }

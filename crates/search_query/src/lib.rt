@@ -4,8 +4,6 @@
 mod flatten;
 mod matching;
 mod pair;
-#[cfg(test)]
-mod tests;
 mod walk;
 
 pub use flatten::pairs;

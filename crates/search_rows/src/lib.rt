@@ -7,10 +7,8 @@ mod pages;
 mod partial;
 mod parts;
 mod paths;
-#[cfg(test)]
-mod tests;
 
 pub use fault::PartialFault;
 pub use laws::rows_have_the_keys;
-pub use pages::{page, shown};
+pub use pages::{page_text, shown};
 pub use partial::Partial;

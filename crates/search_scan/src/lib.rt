@@ -4,8 +4,6 @@
 mod found;
 mod indexes;
 mod laws;
-#[cfg(test)]
-mod tests;
 
 pub use found::find;
 pub use indexes::{Index, names_of};

@@ -6,8 +6,6 @@ mod duplicate;
 mod places;
 mod shelves;
 mod sorted_map;
-#[cfg(test)]
-mod tests;
 
 pub use duplicate::Duplicate;
 pub use shelves::Shelves;

@@ -6,8 +6,6 @@ mod fault;
 mod laws;
 mod meeting;
 mod needs;
-#[cfg(test)]
-mod tests;
 mod versions;
 
 pub use constraints::{Constraint, Sign, parse_constraint, read_constraint};

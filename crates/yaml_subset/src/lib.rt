@@ -17,8 +17,6 @@ mod said;
 mod scalar;
 mod signs;
 mod stack;
-#[cfg(test)]
-mod tests;
 mod texts;
 mod token;
 mod write;

@@ -3,4 +3,4 @@ use Rattle.std.proofs.Common.{◌≡◌, take}
 use Rattle.cookbook_editions.proofs.editions.copy_needs.Given as goal
 
 abbrev pub invariant-loop-need : goal.invariant-loop-need
-invariant-loop-need l = l.copies ≡ take l.need-index l.needs
+invariant-loop-need l = l.copies.items ≡ take l.need-index l.needs

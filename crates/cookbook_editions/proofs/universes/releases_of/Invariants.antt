@@ -4,4 +4,4 @@ use Rattle.cookbook_editions.specs.Universes as spec
 use Rattle.cookbook_editions.proofs.universes.releases_of.Given as goal
 
 abbrev pub invariant-loop-version : goal.invariant-loop-version
-invariant-loop-version l = map spec.release_of l.entries ≡ l.releases ++ map spec.release_of (drop l.version-index l.entries)
+invariant-loop-version l = map spec.release_of l.entries ≡ l.releases.items ++ map spec.release_of (drop l.version-index l.entries)

@@ -4,4 +4,4 @@ use Rattle.cookbook_editions.proofs.UniverseLemmas.{cookbooks_of, seen}
 use Rattle.cookbook_editions.proofs.universes.universe_of.Given as goal
 
 abbrev pub invariant-loop-name : goal.invariant-loop-name
-invariant-loop-name l = l.cookbooks ++ cookbooks_of (map seen (drop l.name-index l.name-items)) ≡ cookbooks_of (map seen l.name-items)
+invariant-loop-name l = l.cookbooks.items ++ cookbooks_of (map seen (drop l.name-index l.name-items)) ≡ cookbooks_of (map seen l.name-items)

@@ -3,4 +3,4 @@ use Rattle.std.proofs.Common.{◌≡◌, take}
 use Rattle.dep_solver.proofs.roots.copy_names.Given as goal
 
 abbrev pub invariant-loop-name : goal.invariant-loop-name
-invariant-loop-name l = l.copies ≡ take l.name-index l.names
+invariant-loop-name l = l.copies.items ≡ take l.name-index l.names

@@ -3,4 +3,4 @@ use Rattle.std.proofs.Common.{◌≡◌, take}
 use Rattle.dep_solver.proofs.universe.copy_releases.Given as goal
 
 abbrev pub invariant-loop-release : goal.invariant-loop-release
-invariant-loop-release l = l.copies ≡ take l.release-index l.releases
+invariant-loop-release l = l.copies.items ≡ take l.release-index l.releases

@@ -10,4 +10,4 @@ pub returns-clause-permitted : goal.returns-clause-permitted
 returns-clause-permitted g c =
     let same = c.settle.ensures.reply in
     permitted_exactly c.args.request.now c.settle.result (full_in c.args.state.now c.args.files.now)
-    (same ∙ c.prepare-prepared.ensures.reply ∙ ap (λ (r : Reply). answer (mark_of r) c.args.request.now (full_in c.args.state.now c.args.files.now)) (sym same))
+    (same ∙ c.prepare-ready.ensures.reply ∙ ap (λ (r : Reply). answer (mark_of r) c.args.request.now (full_in c.args.state.now c.args.files.now)) (sym same))

@@ -1,34 +1,19 @@
--- One object more.
-use Rattle.std.proofs.Common.{◌≡◌, ◌∙◌, ◌+◌, List, ℕ, Some, take, get_or, sym, ap, subst}
-use Rattle.std.specs.Global.{Vec}
-use Rattle.std.proofs.lemmas.Bool.{false≢true}
-use Rattle.std.proofs.lemmas.Grind.{get_or_default_zero}
-use Rattle.doc_tree.specs.declared.text.Text.{Text}
-use Rattle.search_index.specs.KeyOrder.{object_key}
-use Rattle.search_index.proofs.NameLemmas.{NamesSoFar, names_all, names_less, names_more}
+-- The objects that were found are among those that are gone through.
+use Rattle.std.proofs.Common.{◌≡◌, ◌∙◌, Bool, not, if◌then◌else◌, List, [], ℕ, Less, sym, ap, subst}
+use Rattle.ordered_keys.specs.Numbers.{Among}
+use Rattle.search_index.specs.Found.{has, is_in}
+use Rattle.search_index.specs.KeyOrder.{object_cmp, object_key}
+use Rattle.search_index.proofs.FoundLemmas.{in_among}
+use Rattle.search_index.proofs.Neighbours.{below_next, from_first}
 use Rattle.search_index.proofs.names.names_of.Goals as goal
-use Rattle.search_index.proofs.names.names_of.Goals.{then-has+in-Some+in_ok-copy+in_ok-push, then-has+in_default, else-has}
 
-pub loop-number-preserved : goal.loop-number-preserved
-loop-number-preserved c =
-    let numbers : List ℕ = c.walked-number-items.result.now in
-    let i = c.loop-number.number-index in
-    let j : ℕ = get_or numbers i 0 in
-    let at : j ≡ get_or numbers i j = sym (get_or_default_zero numbers i j c.loop-number-test.true) in
-    elim c.if-has.branch [
-      | then-has+in-Some+in_ok-copy+in_ok-push w ↦
-          let copied = w.in_ok-copy.ensures in
-          let pushed = w.in_ok-push.ensures.items in
-          subst (λ (z : List (List ℕ)). NamesSoFar c.args.objects.now c.args.scope c.args.found.now (take (i + 1) numbers) z) (sym (ap (λ (v : Vec Text). v.items) w.names-is ∙ pushed))
-          (names_more c.args.objects.now c.args.scope c.args.found.now numbers c.loop-number.names.items i j w.in_ok-copy.field-0 c.loop-number-test.true at c.loop-number.invariant (sym c.has.ensures ∙ w.if-has.true)
-          (w.in-Some.ensures ∙ ap (λ (z : List ℕ). Some (object_key c.args.scope z)) (sym copied)))
-      | then-has+in_default w ↦
-          subst (λ (z : List (List ℕ)). NamesSoFar c.args.objects.now c.args.scope c.args.found.now (take (i + 1) numbers) z) (sym (ap (λ (v : Vec Text). v.items) w.names-is))
-          (names_less c.args.objects.now c.args.scope c.args.found.now numbers c.loop-number.names.items i j c.loop-number-test.true at c.loop-number.invariant (λ name is h. w.in_default.ensures name is))
-      | else-has w ↦
-          subst (λ (z : List (List ℕ)). NamesSoFar c.args.objects.now c.args.scope c.args.found.now (take (i + 1) numbers) z) (sym (ap (λ (v : Vec Text). v.items) w.names-is))
-          (names_less c.args.objects.now c.args.scope c.args.found.now numbers c.loop-number.names.items i j c.loop-number-test.true at c.loop-number.invariant (λ name is h. false≢true (sym w.if-has.false ∙ c.has.ensures ∙ h)))
-    ]
+pub names_among-requires : goal.names_among-requires
+names_among-requires c i x is e h =
+    let numbers : List ℕ = c.args.found.now.numbers in
+    let told : has c.args.found.now i ≡ is_in numbers i = ap (λ (b : Bool). if b then not (is_in numbers i) else is_in numbers i) c.if-not-found.true in
+    subst (λ (ns : List ℕ). Among ns i) (sym c.as_slice.ensures) ((in_among numbers i).0 (sym told ∙ h))
 
-pub returns : goal.returns
-returns c = names_all c.args.objects.now c.args.scope c.args.found.now c.walked-number-items.result.now c.loop-number.names.items c.loop-number.number-index c.loop-number-test.false c.loop-number.invariant c.walked-number-items.ensures
+pub names_among-requires-2 : goal.names_among-requires-2
+names_among-requires-2 c i x is e h =
+    let below = subst (λ z. object_cmp x (object_key z []) ≡ Less) (sym c.requires) (below_next x c.args.scope e) in
+    subst (λ (ns : List ℕ). Among ns i) (sym c.deref.ensures.value) ((c.in_ok-numbers.ensures i).1 (x, is, from_first x c.args.scope e, below))

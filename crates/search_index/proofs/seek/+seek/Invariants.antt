@@ -18,8 +18,8 @@ decreases-plain l = 2 * item_size (what_of l.what.now)
 
 -- what is left decides, where no part so far is met
 abbrev pub invariant-any-loop-all_of : goal.invariant-any-loop-all_of
-invariant-any-loop-all_of l = AnySoFar l.terms l.postings l.scope l.query (ors_of (drop l.all_of-index l.all_of-items)) l.missing
+invariant-any-loop-all_of l = AnySoFar l.terms l.postings l.scope l.among l.query (ors_of (drop l.all_of-index l.all_of-items)) l.missing
 
 -- what is left decides, where each item so far is met
 abbrev pub invariant-all-loop-item : goal.invariant-all-loop-item
-invariant-all-loop-item l = AllSoFar l.terms l.postings l.scope l.all_of (ands_of (drop l.item-index l.item-items)) l.found
+invariant-all-loop-item l = AllSoFar l.terms l.postings l.scope l.among l.all_of (ands_of (drop l.item-index l.items)) l.found

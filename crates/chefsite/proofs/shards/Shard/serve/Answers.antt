@@ -5,6 +5,12 @@ use Rattle.org_core.specs.States.{Kept, state_in}
 use Rattle.sandboxes.specs.Files.{holding_of, OthersStay}
 use Rattle.chefsite.proofs.ShardLemmas.{states-written, stays_there, some_is, each-written, conditions-written, stays-written}
 use Rattle.org_machine.specs.Marks.{mark_of}
+use Rattle.org_machine.specs.Serving.{Looks}
+use Rattle.chefsite.specs.Indexing.{no_looks}
+use Rattle.object_finder.specs.Exact.{HoldsExactly, OthersStay as HoldsOthers}
+use Rattle.shard_core.specs.Keeping.{held_in}
+use Rattle.org_core.specs.States.{objects_of}
+use Rattle.chefsite.proofs.IndexLemmas.{exact_of, index-written}
 use Rattle.chefsite.specs.Organisations.{kept_at, full_at, state_at}
 use Rattle.chefsite.proofs.shards.Shard.serve.Goals as goal
 
@@ -68,3 +74,32 @@ invariant_of-self-clause-conditions g c =
     c.requires
     ((λ i. record { state = state_in c.serve.new.state; files = holding_of c.serve.new.files (sym left_named i) }) ∙ c.serve.ensures.state))
     c.requires c.args.self.now.conditions
+
+-- the index is exact for the state that is lent
+pub serve-requires-clause-exact : goal.serve-requires-clause-exact
+serve-requires-clause-exact g c =
+    let was : kept_at c.args.self.now.organisations c.args.org.now ≡ Some c.in-Some.state.now = search rules in
+    let named : c.in-Some.state.now.name ≡ c.args.org.now = c.args.self.now.named c.args.org.now c.in-Some.state.now was in
+    exact_of (held_in c.args.self.now.index) c.in-Some.state.now.name c.args.org.now (kept_at c.args.self.now.organisations c.args.org.now) (state_in c.in-Some.state.now) named (ap state_at was)
+    (c.args.self.now.indexed c.args.org.now)
+
+-- and for each that is kept afterwards
+pub invariant_of-self-clause-indexed : goal.invariant_of-self-clause-indexed
+invariant_of-self-clause-indexed g c =
+    let was : kept_at c.args.self.now.organisations c.args.org.now ≡ Some c.in-Some.state.now = search rules in
+    let named : c.in-Some.state.now.name ≡ c.args.org.now = c.args.self.now.named c.args.org.now c.in-Some.state.now was in
+    let left_named : c.serve.new.state.name ≡ c.args.org.now = c.serve.ensures.name ∙ named in
+    index-written c.args.self.now.organisations (c.get_mut.follows.lender c.serve.new.state) (held_in c.args.self.now.index) (held_in c.serve.new.finder) c.args.org.now (Some c.serve.new.state)
+    ((c.get_mut.follows.holds c.serve.new.state).3 (search rules)).0
+    (subst (λ (name : List ℕ). HoldsOthers name (held_in c.args.self.now.index) (held_in c.serve.new.finder)) named c.serve.ensures.held_of_others)
+    (subst (λ (name : List ℕ). HoldsExactly (held_in c.serve.new.finder) name (objects_of (state_in c.serve.new.state))) left_named c.serve.ensures.exact)
+    c.args.self.now.indexed
+
+-- its looks are those of the step over the state that is kept
+pub returns-in-Some-clause-looks : goal.returns-in-Some-clause-looks
+returns-in-Some-clause-looks g c =
+    let was : kept_at c.args.self.now.organisations c.args.org.now ≡ Some c.in-Some.state.now = search rules in
+    let named : c.in-Some.state.now.name ≡ c.args.org.now = c.args.self.now.named c.args.org.now c.in-Some.state.now was in
+    let is : full_in c.in-Some.state.now c.args.self.now.files ≡ full_at c.args.self.now.organisations c.args.self.now.files c.args.org.now =
+    λ i. record { state = state_at (sym was i); files = holding_of c.args.self.now.files (named i) } in
+    subst (λ (full : FullState). Looks no_looks c.serve.result c.args.request.now full c.args.steps.now c.serve.new.steps) is c.serve.ensures.looks

@@ -1,0 +1,5 @@
+//! Tests of `attr_merge`.
+#![tactic(auto)]
+
+#[cfg(test)]
+mod tests;

@@ -1,0 +1,23 @@
+-- Each command did what its status says.
+use Rattle.std.proofs.Common.{Some, ap, ◌∙◌, rules}
+use Rattle.command_words.specs.Reading.{told}
+use Rattle.chefsite.proofs.ContractLemmas.{answered_so, performed_answer, performed_explain, performed_demo}
+use Rattle.chefsite.proofs.WordLemmas.{size_is_small}
+use Rattle.chefsite.proofs.perform.Goals as goal
+
+pub demo-requires : goal.demo-requires
+demo-requires g c = size_is_small c.requires.0 _ (c.requires.1 ∙ ap (λ x. Some (told x)) c.in-Demo.is)
+
+pub returns-in-Answer : goal.returns-in-Answer
+returns-in-Answer g c = λ given read.
+    performed_answer _ given _ _ _ (read ∙ ap (λ x. Some (told x)) c.in-Answer.is) c.answer.ensures.words
+    (answered_so _ _ _ _ c.answer.ensures.says c.answer.ensures.cause c.answer.ensures.rest c.answer.ensures.complete (search rules))
+
+pub returns-in-Explain : goal.returns-in-Explain
+returns-in-Explain g c = λ given read.
+    performed_explain _ given _ _ _ _ _ (read ∙ ap (λ x. Some (told x)) c.in-Explain.is) c.as_str.ensures.value
+    c.explain.ensures.says c.explain.ensures.cause (search rules) c.explain.ensures.kept
+
+pub returns-in-Demo : goal.returns-in-Demo
+returns-in-Demo g c = λ given read.
+    performed_demo _ given _ _ _ _ (read ∙ ap (λ x. Some (told x)) c.in-Demo.is) c.demo.ensures.says c.demo.ensures.cause (search rules) (search rules)

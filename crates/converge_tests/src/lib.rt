@@ -1,0 +1,5 @@
+//! Tests of `converge`.
+#![tactic(auto)]
+
+#[cfg(test)]
+mod tests;

@@ -1,0 +1,5 @@
+//! Tests of `cookbook_editions`.
+#![tactic(auto)]
+
+#[cfg(test)]
+mod tests;

@@ -1,0 +1,5 @@
+//! Tests of `cookbook_meta`.
+#![tactic(auto)]
+
+#[cfg(test)]
+mod tests;

@@ -1,0 +1,5 @@
+//! Tests of `dep_solver`.
+#![tactic(auto)]
+
+#[cfg(test)]
+mod tests;

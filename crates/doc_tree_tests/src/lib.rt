@@ -1,0 +1,5 @@
+//! Tests of `doc_tree`.
+#![tactic(auto)]
+
+#[cfg(test)]
+mod tests;

@@ -1,0 +1,5 @@
+//! Tests of `host_acts`.
+#![tactic(auto)]
+
+#[cfg(test)]
+mod tests;

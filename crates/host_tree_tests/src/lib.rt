@@ -1,0 +1,5 @@
+//! Tests of `host_tree`.
+#![tactic(auto)]
+
+#[cfg(test)]
+mod tests;

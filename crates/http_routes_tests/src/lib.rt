@@ -1,0 +1,5 @@
+//! Tests of `http_routes`.
+#![tactic(auto)]
+
+#[cfg(test)]
+mod tests;

@@ -1,0 +1,5 @@
+//! Tests of `http_wire`.
+#![tactic(auto)]
+
+#[cfg(test)]
+mod tests;

@@ -1,0 +1,241 @@
+//! Messages in pieces, what is no message, and the bytes of replies.
+use doc_tree::{Bytes, NoMemory};
+use http_wire::*;
+use org_core::{Body, Collection, ObjectsRoute, Place, Reply, Request, Route};
+use outside_core::{Buffered, MemSink, MemSource};
+use route_table::Verb;
+use std::alloc::Global;
+use std::test::Fail;
+
+const TWO: &str =
+    "\r\n\nPOST /organizations/acme/nodes?x=1 HTTP/1.1\r\nX-OPS-userid: \t pivotal \r\ncontent-LENGTH: 002\r\n\r\n{}GET /organizations/acme/nodes/web1 HTTP/1.0\nX-Ops-Server-API-Version: 1\n\n";
+
+fn source(
+    alloc: Global,
+    text: &[u8],
+    piece: usize,
+    failing: Vec<u64>,
+) -> Result<MemSource, NoMemory> {
+    Ok(MemSource::new(text.to_vec(alloc)?, piece.max(1), failing))
+}
+
+// Where a request goes: the organisation, and the node or the collection.
+fn place(place: &Place) -> (&str, &str) {
+    match place {
+        Place::Of { org, route } => (org.as_str(), node(route)),
+        _ => ("none", "none"),
+    }
+}
+
+fn node(route: &Route) -> &str {
+    match route {
+        Route::Objects(Collection::Nodes, ObjectsRoute::All) => "nodes",
+        Route::Objects(Collection::Nodes, ObjectsRoute::One(name)) => name.as_str(),
+        _ => "none",
+    }
+}
+
+fn verb(verb: Verb) -> &'static str {
+    match verb {
+        Verb::Get => "GET",
+        Verb::Post => "POST",
+        Verb::Put => "PUT",
+        Verb::Delete => "DELETE",
+        Verb::Other => "other",
+    }
+}
+
+fn body(body: &Body) -> &'static str {
+    match body {
+        Body::Empty => "empty",
+        Body::Doc(_) => "doc",
+        Body::Bad(_) => "bad",
+        Body::Raw(_) => "raw",
+        Body::TooLong => "too long",
+    }
+}
+
+// A request in words: verb, organisation, node, caller, version and body.
+fn described(alloc: Global, request: Request) -> Result<String, NoMemory> {
+    let verb = verb(request.verb);
+    let (org, node) = place(&request.place);
+    let caller = request
+        .caller
+        .as_ref()
+        .map_or("nobody", |name| name.as_str());
+    let api = request.api.unwrap_or(9);
+    let body = body(&request.body);
+    Ok(format!(in alloc; "{verb} {org} {node} {caller} {api} {body}")?)
+}
+
+// The next message in words, or why there is none.
+fn next(alloc: Global, input: &mut MemSource, room: &mut Room) -> Result<String, NoMemory> {
+    match read_message(alloc, input, room) {
+        Ok(Some(request)) => described(alloc, request),
+        Ok(None) => Ok(String::from_str(alloc, "end")?),
+        Err(WireFault::ReadFault) => Ok(String::from_str(alloc, "read fault")?),
+        Err(WireFault::NotAMessage { place }) => Ok(format!(in alloc; "no message at {place}")?),
+    }
+}
+
+#[test]
+fn requests_come_in_pieces_of_any_size(rt: HostRuntime) -> Result<(), Fail> {
+    let alloc = rt.alloc();
+    for piece in [1, 2, 7, 1000] {
+        let mut input = source(alloc, TWO.as_bytes(), piece, Vec::new(alloc))?;
+        let mut room = Room::take(alloc)?;
+        for expected in [
+            "POST acme nodes pivotal 0 doc",
+            "GET acme web1 nobody 1 empty",
+            "end",
+        ] {
+            let told = next(alloc, &mut input, &mut room)?;
+            assert_eq!(rt; told.as_str(), expected, "in pieces of {piece}");
+        }
+    }
+    Ok(())
+}
+
+#[test]
+fn a_read_that_fails_is_a_fault_of_reading(rt: HostRuntime) -> Result<(), Fail> {
+    let alloc = rt.alloc();
+    let text = b"PUT / HTTP/1.1\r\nContent-Length: 9\r\n\r\n123456789";
+    for failing in [1, 3, 40] {
+        let mut input = source(alloc, text, 1, vec![in alloc; failing]?)?;
+        let mut room = Room::take(alloc)?;
+        let told = next(alloc, &mut input, &mut room)?;
+        assert_eq!(rt; told.as_str(), "read fault");
+    }
+    Ok(())
+}
+
+// Whether the connection is to be closed behind a message with these headers, which `|` parts.
+const CLOSE: &str = "open:\n\
+    close:Connection: close\n\
+    close:connection:CLOSE\n\
+    open:Connection: keep-alive\n\
+    close:Connection: keep-alive, Close\n\
+    close:Connection: close, keep-alive\n\
+    close:Connection: keep-alive|Connection: close\n\
+    close:Connection: close|Connection: keep-alive\n\
+    close:Connection: x ,\t close\t ,y\n\
+    open:Connection:\n\
+    open:Connection: closed, clo se\n\
+    open:Connection: \"close\"\n\
+    open:X-Connection: close\n\
+    open:Connection: upgrade|Upgrade: close";
+
+// A message with these headers.
+fn with_headers(alloc: Global, headers: &str) -> Result<Vec<u8>, NoMemory> {
+    let mut text = b"GET / HTTP/1.1\r\n".to_vec(alloc)?;
+    for header in headers.split('|') {
+        text.extend_from_slice(header.as_bytes())?;
+        if !header.is_empty() {
+            text.extend_from_slice(b"\r\n")?;
+        }
+    }
+    text.extend_from_slice(b"\r\n")?;
+    Ok(text)
+}
+
+// What becomes of the connection behind a message.
+fn connection(alloc: Global, text: Vec<u8>) -> Result<&'static str, NoMemory> {
+    let mut input = MemSource::new(text, 100, Vec::new(alloc));
+    let mut room = Room::take(alloc)?;
+    match read_message(alloc, &mut input, &mut room) {
+        Ok(Some(request)) => Ok(if request.close { "close" } else { "open" }),
+        _ => Ok("none"),
+    }
+}
+
+#[test]
+fn a_connection_header_closes(rt: HostRuntime) -> Result<(), Fail> {
+    let alloc = rt.alloc();
+    for line in CLOSE.lines() {
+        let (expected, headers) = line.split_once(':').ok_or("a row")?;
+        let told = connection(alloc, with_headers(alloc, headers)?)?;
+        assert_eq!(rt; told, expected, "{headers}");
+    }
+    Ok(())
+}
+
+#[test]
+fn a_room_tells_whether_it_holds_the_next_message(rt: HostRuntime) -> Result<(), Fail> {
+    let alloc = rt.alloc();
+    let mut input = source(alloc, TWO.as_bytes(), 1000, Vec::new(alloc))?;
+    let mut room = Room::take(alloc)?;
+    assert!(rt; !room.holds_message());
+    let _first = next(alloc, &mut input, &mut room)?;
+    assert!(rt; room.holds_message());
+    let _second = next(alloc, &mut input, &mut room)?;
+    assert!(rt; !room.holds_message());
+    Ok(())
+}
+
+const CREATED: &[u8] =
+    b"HTTP/1.1 201 Created\r\nContent-Type: application/json\r\nContent-Length: 29\r\n\r\n{\"uri\":\"/organizations/acme\"}";
+
+#[test]
+fn a_reply_has_its_status_line_two_headers_and_its_body(rt: HostRuntime) -> Result<(), Fail> {
+    let alloc = rt.alloc();
+    let reply = Reply {
+        status: 201,
+        octets: false,
+        body: Bytes::constant(b"{\"uri\":\"/organizations/acme\"}"),
+    };
+    let mut output = MemSink::new(alloc, Vec::new(alloc), 200)?;
+    assert!(rt; write_reply(&mut output, &reply).is_ok());
+    assert_eq!(rt; output.bytes(), CREATED);
+    assert_eq!(rt; reply_length(&reply), CREATED.len());
+    let mut buffered = MemSink::new(alloc, Vec::new(alloc), 200)?;
+    let mut buffer = Buffered::take(alloc, 100)?;
+    assert!(rt; buffer_reply(&mut buffer, &mut buffered, &reply).is_ok());
+    assert!(rt; buffer.empty(&mut buffered).is_ok());
+    assert_eq!(rt; buffered.bytes(), CREATED);
+    Ok(())
+}
+
+const STATUSES: [u16; 15] = [
+    200, 201, 400, 401, 403, 404, 405, 406, 409, 412, 413, 500, 501, 503, 299,
+];
+
+// Their status lines, in the same order.
+const STATUS_LINES: &str = "200 OK\n\
+    201 Created\n\
+    400 Bad Request\n\
+    401 Unauthorized\n\
+    403 Forbidden\n\
+    404 Not Found\n\
+    405 Method Not Allowed\n\
+    406 Not Acceptable\n\
+    409 Conflict\n\
+    412 Precondition Failed\n\
+    413 Payload Too Large\n\
+    500 Internal Server Error\n\
+    501 Not Implemented\n\
+    503 Service Unavailable\n\
+    299 ";
+
+fn text_of(alloc: Global, status: u16) -> Result<Vec<u8>, Fail> {
+    let reply = Reply {
+        status,
+        octets: true,
+        body: Bytes::constant(b"x"),
+    };
+    let mut output = MemSink::new(alloc, Vec::new(alloc), 200)?;
+    write_reply(&mut output, &reply).ok().ok_or("a reply")?;
+    Ok(output.bytes().to_vec(alloc)?)
+}
+
+#[test]
+fn each_status_has_its_phrase(rt: HostRuntime) -> Result<(), Fail> {
+    let alloc = rt.alloc();
+    for (status, line) in STATUSES.iter().zip(STATUS_LINES.lines()) {
+        let told = text_of(alloc, *status)?;
+        let expected = format!(in alloc;
+            "HTTP/1.1 {line}\r\nContent-Type: application/octet-stream\r\nContent-Length: 1\r\n\r\nx"
+        )?;
+        assert_eq!(rt; told.as_slice(), expected.as_bytes(), "{status}");
+    }
+    Ok(())
+}

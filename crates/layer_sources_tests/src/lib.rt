@@ -1,0 +1,5 @@
+//! Tests of `layer_sources`.
+#![tactic(auto)]
+
+#[cfg(test)]
+mod tests;

@@ -1,0 +1,5 @@
+//! Tests of `notify_queue`.
+#![tactic(auto)]
+
+#[cfg(test)]
+mod tests;

@@ -1,0 +1,4 @@
+pub mod Indexes
+pub mod Held
+pub mod Exact
+pub mod Changes

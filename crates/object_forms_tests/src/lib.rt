@@ -1,0 +1,5 @@
+//! Tests of `object_forms`.
+#![tactic(auto)]
+
+#[cfg(test)]
+mod tests;

@@ -1,0 +1,5 @@
+//! Tests of `object_store`.
+#![tactic(auto)]
+
+#[cfg(test)]
+mod tests;

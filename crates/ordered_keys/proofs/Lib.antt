@@ -1,0 +1,5 @@
+pub mod NumberLemmas
+pub mod OrderLemmas
+pub mod TreeLemmas
+pub mod FindLemmas
+pub mod KeyLemmas

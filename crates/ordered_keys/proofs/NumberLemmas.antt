@@ -1,0 +1,34 @@
+-- Lists of numbers: which are among them, and lists of which none is there twice.
+use Rattle.std.proofs.Common.{◌≡◌, ◌⊎◌, ℕ, inl, inr, List, [], ◌∷◌, ◌++◌, refl, sym, ap}
+use Rattle.ordered_keys.specs.Numbers.{Among, AreApart}
+
+pub Among-left : (xs ys : List ℕ) (x : ℕ) → Among xs x → Among (xs ++ ys) x
+Among-left [] ys x h = absurd h
+Among-left (z ∷ xs) ys x (inl e) = inl e
+Among-left (z ∷ xs) ys x (inr h) = inr (Among-left xs ys x h)
+
+pub Among-right : (xs ys : List ℕ) (x : ℕ) → Among ys x → Among (xs ++ ys) x
+Among-right [] ys x h = h
+Among-right (z ∷ xs) ys x h = inr (Among-right xs ys x h)
+
+pub Among-split : (xs ys : List ℕ) (x : ℕ) → Among (xs ++ ys) x → Among xs x ⊎ Among ys x
+Among-split [] ys x h = inr h
+Among-split (z ∷ xs) ys x (inl e) = inl (inl e)
+Among-split (z ∷ xs) ys x (inr h) = elim (Among-split xs ys x h) [ inl a ↦ inl (inr a) | inr b ↦ inr b ]
+
+pub nothing_behind : (xs : List ℕ) → xs ≡ xs ++ []
+nothing_behind [] = refl
+nothing_behind (x ∷ xs) = ap (λ z. x ∷ z) (nothing_behind xs)
+
+pub apart_push : (xs : List ℕ) (x : ℕ) → AreApart xs → (Among xs x → ⊥) → AreApart (xs ++ x ∷ [])
+apart_push [] x h out = (λ a. a, tt)
+apart_push (y ∷ xs) x h out = (
+  λ a. elim (Among-split xs (x ∷ []) y a) [ inl b ↦ h.0 b | inr (inl e) ↦ out (inl (sym e)) | inr (inr b) ↦ b ],
+  apart_push xs x h.1 (λ a. out (inr a)),
+)
+
+pub apart_pop : (xs : List ℕ) (x : ℕ) → AreApart (xs ++ x ∷ []) → AreApart xs × (Among xs x → ⊥)
+apart_pop [] x h = (tt, λ a. a)
+apart_pop (y ∷ xs) x h =
+    let rest = apart_pop xs x h.1 in
+    ((λ a. h.0 (Among-left xs (x ∷ []) y a), rest.0), elim [ inl e ↦ h.0 (Among-right xs (x ∷ []) y (inl (sym e))) | inr a ↦ rest.1 a ])

@@ -1,0 +1,5 @@
+//! Tests of `ordered_keys`.
+#![tactic(auto)]
+
+#[cfg(test)]
+mod tests;

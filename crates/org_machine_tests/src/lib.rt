@@ -1,0 +1,5 @@
+//! Tests of `org_machine`.
+#![tactic(auto)]
+
+#[cfg(test)]
+mod tests;

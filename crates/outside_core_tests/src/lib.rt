@@ -1,0 +1,5 @@
+//! Tests of `outside_core`.
+#![tactic(auto)]
+
+#[cfg(test)]
+mod tests;

@@ -1,0 +1,5 @@
+//! Tests of `outside_disk`.
+#![tactic(auto)]
+
+#[cfg(test)]
+mod tests;

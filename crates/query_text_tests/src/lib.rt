@@ -1,0 +1,5 @@
+//! Tests of `query_text`.
+#![tactic(auto)]
+
+#[cfg(test)]
+mod tests;

@@ -1,0 +1,5 @@
+//! Tests of `resource_core`.
+#![tactic(auto)]
+
+#[cfg(test)]
+mod tests;

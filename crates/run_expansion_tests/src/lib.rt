@@ -1,0 +1,5 @@
+//! Tests of `run_expansion`.
+#![tactic(auto)]
+
+#[cfg(test)]
+mod tests;

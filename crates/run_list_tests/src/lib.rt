@@ -1,0 +1,5 @@
+//! Tests of `run_list`.
+#![tactic(auto)]
+
+#[cfg(test)]
+mod tests;

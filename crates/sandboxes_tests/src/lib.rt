@@ -1,0 +1,5 @@
+//! Tests of `sandboxes`.
+#![tactic(auto)]
+
+#[cfg(test)]
+mod tests;

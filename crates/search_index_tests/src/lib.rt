@@ -1,0 +1,5 @@
+//! Tests of `search_index`.
+#![tactic(auto)]
+
+#[cfg(test)]
+mod tests;

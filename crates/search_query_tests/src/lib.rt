@@ -1,0 +1,5 @@
+//! Tests of `search_query`.
+#![tactic(auto)]
+
+#[cfg(test)]
+mod tests;

@@ -1,0 +1,19 @@
+//! Laws of the definitions, which need no code.
+
+ghost use Rattle.org_core.specs.Keeping.{IsOrderlyGroup, KeepsConditions, PutsNoVersions, Someone};
+ghost use Rattle.search_routes.specs.SearchRules.{search_rules};
+
+/// The moves of these routes are orderly: there are none.
+pub fn searches_are_orderly()
+    ensures { IsOrderlyGroup search_rules }
+{}
+
+/// What these routes do for a caller whom the organisation knows keeps the conditions of its state.
+pub fn searches_keep_conditions()
+    ensures { KeepsConditions Someone search_rules }
+{}
+
+/// These routes put no cookbook version in, so what cookbooks name stays.
+pub fn searches_put_no_versions()
+    ensures { PutsNoVersions search_rules }
+{}

@@ -1,0 +1,157 @@
+//! The page that shows what a search finds.
+
+ghost use Rattle.std.specs.Prelude.{◌≡◌, ◌+◌, IfOk, length, map, option_map, unwrap_or};
+ghost use Rattle.doc_tree.specs.Doc.{null};
+ghost use Rattle.doc_tree.specs.Tree.{doc_of};
+ghost use Rattle.doc_tree.specs.Written.{text};
+ghost use Rattle.search_rows.specs.Rows.{partial_row};
+ghost use Rattle.search_scan.specs.Indexes.{kind_of, object_at};
+ghost use Rattle.search_scan.specs.Looks.{Looked};
+ghost use Rattle.org_core.specs.Contexts.{seen};
+ghost use Rattle.org_core.specs.Outcomes.{Finds};
+ghost use Rattle.org_core.specs.States.{objects_of};
+ghost use Rattle.search_routes.specs.Finding as spec;
+
+use crate::operations::Search;
+use doc_tree::{Bytes, Kind, NoMemory, Steps, Text, Tree, json_text};
+use org_core::{Context, Moves, Prepared, Reply, joined, org_uri};
+use search_rows::{Partial, page_text, shown};
+use search_scan::Index;
+use std::alloc::Global;
+use std::sync::ledger::Ledger;
+
+/// The page of what was found. Each object that it shows is looked at.
+pub(crate) fn show_page<L: Ledger>(
+    alloc: Global,
+    context: Context<'_>,
+    index: &Index,
+    search: &Search,
+    names: &[Text],
+    steps: &mut Steps<L>,
+) -> Result<Prepared, NoMemory>
+    ensures done { IfOk result (λ p. Finds (Ok p) (spec.shows_page (seen context.entry) index.now search.now names.now).answer) }
+    ensures looked { Looked result (spec.shows_page (seen context.entry) index.now search.now names.now).looks steps.old steps.new }
+{
+    let (start, count) = (u64::from(search.asked.start), u64::from(search.asked.rows));
+    let here = shown(names, start, count);
+    let rows = rows_of(alloc, context, index, &search.partial, here, steps)?;
+    Ok(Prepared {
+        reply: Reply {
+            status: 200,
+            octets: false,
+            body: page_text(alloc, &rows, start, names.len())?,
+        },
+        moves: Moves::new(alloc),
+    })
+}
+
+// The texts of the rows.
+fn rows_of<L: Ledger>(
+    alloc: Global,
+    context: Context<'_>,
+    index: &Index,
+    partial: &Option<Partial>,
+    names: &[Text],
+    steps: &mut Steps<L>,
+) -> Result<Vec<Bytes>, NoMemory>
+    ensures rows { IfOk result (λ rows. rows.items ≡ map text (spec.rows_of (seen context.entry) index.now partial.now names.now)) }
+    ensures looked { Looked result (length names.now) steps.old steps.new }
+{
+    let mut rows = Vec::new(alloc);
+    for name in names {
+        rows.push(row_of(alloc, context, index, partial, name.as_str(), steps)?)?;
+    }
+    Ok(rows)
+}
+
+fn row_of<L: Ledger>(
+    alloc: Global,
+    context: Context<'_>,
+    index: &Index,
+    partial: &Option<Partial>,
+    name: &str,
+    steps: &mut Steps<L>,
+) -> Result<Bytes, NoMemory>
+    ensures row { IfOk result (λ row. row ≡ text (spec.row_of (seen context.entry) index.now partial.now name.now)) }
+    ensures looked { steps.new ≡ steps.old + 1 }
+{
+    let object = look_up(context, index, name, steps);
+    match partial {
+        None => whole(alloc, object),
+        Some(partial) => json_text(
+            alloc,
+            &part(alloc, context.org, index, partial, name, object)?,
+        ),
+    }
+}
+
+// The object of this name, which is looked at in one step.
+fn look_up<'c, L: Ledger>(
+    context: Context<'c>,
+    index: &Index,
+    name: &str,
+    steps: &mut Steps<L>,
+) -> Option<&'c Tree>
+    ensures object { option_map (λ t. doc_of t.now) result ≡ object_at index.now (objects_of (seen context.entry).state) name.now }
+    ensures looked { steps.new ≡ steps.old + 1 }
+{
+    match index {
+        Index::Nodes => context.state.look_up(Kind::Node, name, steps),
+        Index::Roles => context.state.look_up(Kind::Role, name, steps),
+        Index::Environments => context.state.look_up(Kind::Environment, name, steps),
+        Index::Clients => context.state.look_up(Kind::Client, name, steps),
+        Index::Bag(bag) => context.state.item(bag.as_str(), name, steps),
+    }
+}
+
+// The text of the row that shows the whole object. One that was found is there.
+fn whole(alloc: Global, object: Option<&Tree>) -> Result<Bytes, NoMemory>
+    ensures { IfOk result (λ row. row ≡ text (unwrap_or (option_map (λ t. doc_of t.now) object.entry) null)) }
+{
+    match object {
+        Some(object) => json_text(alloc, object),
+        None => json_text(alloc, &Tree::Null),
+    }
+}
+
+// The row that shows the keys of a partial search.
+fn part(
+    alloc: Global,
+    org: &Text,
+    index: &Index,
+    partial: &Partial,
+    name: &str,
+    object: Option<&Tree>,
+) -> Result<Tree, NoMemory>
+    ensures { IfOk result (λ row. doc_of row ≡ partial_row (kind_of index.now) partial.now (spec.path_of org.now index.now name.now) (unwrap_or (option_map (λ t. doc_of t.now) object.entry) null)) }
+{
+    let path = path_of(alloc, org, index, name)?;
+    match object {
+        Some(object) => partial.row(alloc, index.kind(), object, path),
+        None => partial.row(alloc, index.kind(), &Tree::Null, path),
+    }
+}
+
+// The path of an object.
+fn path_of(alloc: Global, org: &Text, index: &Index, name: &str) -> Result<Text, NoMemory>
+    ensures { IfOk result (λ path. path ≡ spec.path_of org.now index.now name.now) }
+{
+    let org = org_uri(alloc, org)?;
+    let front = joined(alloc, org.as_str(), front_of(alloc, index)?.as_str())?;
+    joined(alloc, front.as_str(), name)
+}
+
+fn front_of(alloc: Global, index: &Index) -> Result<Text, NoMemory>
+    ensures { IfOk result (λ front. front ≡ spec.front_of index.now) }
+{
+    match index {
+        Index::Nodes => Text::from_str(alloc, "/nodes/"),
+        Index::Roles => Text::from_str(alloc, "/roles/"),
+        Index::Environments => Text::from_str(alloc, "/environments/"),
+        Index::Clients => Text::from_str(alloc, "/clients/"),
+        Index::Bag(bag) => {
+            let items = joined(alloc, bag.as_str(), "/")?;
+            joined(alloc, "/data/", items.as_str())
+        }
+    }
+}

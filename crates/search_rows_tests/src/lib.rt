@@ -1,0 +1,5 @@
+//! Tests of `search_rows`.
+#![tactic(auto)]
+
+#[cfg(test)]
+mod tests;

@@ -1,0 +1,5 @@
+//! Tests of `search_scan`.
+#![tactic(auto)]
+
+#[cfg(test)]
+mod tests;

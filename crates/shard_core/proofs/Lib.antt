@@ -1,0 +1,4 @@
+pub mod SlotLemmas
+pub mod HoldingLemmas
+pub mod ChangeLemmas
+pub mod FindLemmas

@@ -1,0 +1,5 @@
+//! Tests of `shard_core`.
+#![tactic(auto)]
+
+#[cfg(test)]
+mod tests;

@@ -1,0 +1,5 @@
+//! Tests of `shelves`.
+#![tactic(auto)]
+
+#[cfg(test)]
+mod tests;

@@ -1,0 +1,5 @@
+//! Tests of `version_rules`.
+#![tactic(auto)]
+
+#[cfg(test)]
+mod tests;

@@ -1,0 +1,5 @@
+//! Tests of `yaml_subset`.
+#![tactic(auto)]
+
+#[cfg(test)]
+mod tests;
