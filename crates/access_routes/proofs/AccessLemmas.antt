@@ -25,8 +25,8 @@ use Rattle.org_core.proofs.ReadLemmas.{IsRead, read_body, some_named, text_named
 use Rattle.org_core.specs.Bodies.{document_in, object_in_body}
 use Rattle.org_core.specs.Conditions.{MeetsConditions}
 use Rattle.org_core.specs.Contexts.{Context, in_state}
-use Rattle.org_core.specs.FileMoves.{takes_shelf_room, versions_put_in}
-use Rattle.org_core.specs.Keeping.{IsOrderlyGroup, KeepsConditions, LeadsToConditions, PutsNoVersions, Someone}
+use Rattle.org_core.specs.FileMoves.{takes_shelf_room, shelved_by}
+use Rattle.org_core.specs.Keeping.{IsOrderlyGroup, KeepsConditions, LeadsToConditions, NeverShelves, Someone}
 use Rattle.org_core.specs.Moves.{IsOrderly, after_moves}
 use Rattle.org_core.specs.Needs.{if_named}
 use Rattle.org_core.specs.Refusals.{refuses}
@@ -65,12 +65,12 @@ access_orderly context (operation.ReplaceEntry k permission entry) = entry_order
 
 -- ---- these routes put no cookbook version in
 
-entry_puts_none : (k : Key) (perm : Perm) (entry : Entry) (found : Option Acl) → versions_put_in (entry_moves k perm entry found) ≡ 0
+entry_puts_none : (k : Key) (perm : Perm) (entry : Entry) (found : Option Acl) → shelved_by (entry_moves k perm entry found) ≡ 0
 unfolding takes_shelf_room
 entry_puts_none k perm entry None = refl
 entry_puts_none k perm entry (Some list) = refl
 
-pub access_puts_none : PutsNoVersions access_rules
+pub access_puts_none : NeverShelves access_rules
 unfolding takes_shelf_room
 access_puts_none context operation.ListGroups = refl
 access_puts_none context (operation.CreateGroup name) = refl

@@ -1,6 +1,6 @@
 //! Laws of the definitions, which need no code.
 
-ghost use Rattle.org_core.specs.Keeping.{IsOrderlyGroup, KeepsConditions, PutsNoVersions, Someone};
+ghost use Rattle.org_core.specs.Keeping.{IsOrderlyGroup, KeepsConditions, NeverShelves, Someone};
 ghost use Rattle.access_routes.specs.AccessRules.{access_rules};
 
 /// The moves of these routes are orderly: who comes, comes first.
@@ -14,6 +14,6 @@ pub fn access_keeps_conditions()
 {}
 
 /// These routes put no cookbook version in, so what cookbooks name stays.
-pub fn access_puts_no_versions()
-    ensures { PutsNoVersions access_rules }
+pub fn access_never_shelves()
+    ensures { NeverShelves access_rules }
 {}

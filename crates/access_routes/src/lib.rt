@@ -10,5 +10,5 @@ mod operations;
 mod users;
 
 pub use access::Access;
-pub use laws::{access_is_orderly, access_keeps_conditions, access_puts_no_versions};
+pub use laws::{access_is_orderly, access_keeps_conditions, access_never_shelves};
 pub use operations::AccessOperation;

@@ -7,7 +7,8 @@ ghost use Rattle.org_core.specs.States.{state_in};
 ghost use Rattle.sandboxes.specs.Files.{holding_of};
 ghost use Rattle.sandboxes.specs.Sandboxes.{nothing, holding_code};
 ghost use base.Stored.{Coded-set, coded_bool};
-ghost use Rattle.org_core.specs.FullStates.{MeetsFileConditions, is_committed};
+ghost use Rattle.org_core.specs.FullStates.{MeetsFileConditions};
+ghost use Rattle.org_shelves.specs.Files.{is_committed};
 ghost use Rattle.shard_core.specs.Keeping.{held_in};
 ghost use Rattle.object_finder.specs.Indexes.{found_by, pairs_by};
 ghost use Rattle.search_query.specs.Pair.{lists};
@@ -36,7 +37,7 @@ pub struct Shard {
     // None is kept that isn't there, so what is asked of strangers costs no memory.
     ghost there: { (name : List ℕ) → ForSome (kept_at organisations name) (λ kept. state_in kept ≢ None) },
     // And the files of each meet their conditions, so who isn't kept has none.
-    ghost conditions: { (name : List ℕ) → MeetsFileConditions (full_at organisations files name) } by { λ one other i name. record { nobody = λ none. Coded-set holding_code (holding_of files name) nothing ((one name).nobody none) ((other name).nobody none) i; named = λ cookbook version manifest sum at names. Coded-set coded_bool (is_committed (holding_of files name) sum) true ((one name).named cookbook version manifest sum at names) ((other name).named cookbook version manifest sum at names) i } },
+    ghost conditions: { (name : List ℕ) → MeetsFileConditions (full_at organisations files name) } by { λ one other i name. record { nobody = λ none. Coded-set holding_code (holding_of files name) nothing ((one name).nobody none) ((other name).nobody none) i; named = λ sum named. Coded-set coded_bool (is_committed (holding_of files name) sum) true ((one name).named sum named) ((other name).named sum named) i } },
     // The index holds each organisation's objects with their pairs, and no others.
     ghost indexed: { IsIndexed organisations (held_in index) } by { λ one other i name. record { there = λ word n plain. Coded-set coded_bool ((held_in index).has_object name word n) (is_some (found_by word n (objects_at organisations name))) ((one name).there word n plain) ((other name).there word n plain) i; pairs = λ word n pair plain. Coded-set coded_bool ((held_in index).has_pair name word n pair) (lists (pairs_by word n (objects_at organisations name)) pair) ((one name).pairs word n pair plain) ((other name).pairs word n pair plain) i } },
 }

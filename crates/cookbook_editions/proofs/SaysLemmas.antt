@@ -7,10 +7,11 @@ use Rattle.doc_tree.specs.Doc.{Doc, null, boolean, whole, words, list, dict, Doc
 use Rattle.doc_tree.specs.Part.{pair_at, part_at}
 use Rattle.version_rules.specs.declared.needs.Need.{Need}
 use Rattle.version_rules.specs.declared.versions.Version.{Version}
+use Rattle.cookbook_meta.specs.Artifacts.{artifact_from, artifact_in, identifier_key, is_identified}
 use Rattle.cookbook_meta.specs.Checksums.{checksums_of}
 use Rattle.cookbook_meta.specs.Entries.{entry_of, has_path, with_entry, with_entries, text_or}
 use Rattle.cookbook_meta.specs.Faults.{then_do, in_field, inside}
-use Rattle.cookbook_meta.specs.Fields.{are_as_asked, told_by, same_version}
+use Rattle.cookbook_meta.specs.Fields.{are_as_asked, named_rows, stated_rows, told_by, same_version}
 use Rattle.cookbook_meta.specs.Manifests.{manifest_in, manifest_from, metadata_of, of_release}
 use Rattle.cookbook_meta.specs.Metadata.{metadata_from, needs_of}
 use Rattle.cookbook_meta.specs.Parts.{needed, text_of, checksum_of, is_checksum, name_of, version_of, truth_of}
@@ -127,15 +128,31 @@ segments_sums (name ∷ names) body before files is =
 
 -- ---- all of it
 
+-- a document says what the manifest does whose parts are read from it
+parts_said : (name : List ℕ) (version : Version) (body : Pairs) (m : Manifest) → in_field metadata_key (then_do (needed metadata_key body) (metadata_of name version)) ≡ Ok m.metadata
+    → in_field (codes "frozen?") (truth_of (pair_at (codes "frozen?") body)) ≡ Ok m.frozen → with_segments segments body [] ≡ Ok m.files → Says (dict body) m
+parts_said name version body m metadata frozen files = record {
+  needs = needs_said name version body m.metadata metadata;
+  frozen = ap (read_or false) (field_done (codes "frozen?") (truth_of (pair_at (codes "frozen?") body)) m.frozen frozen);
+  sums = sym (segments_sums segments body [] m.files files);
+}
+
 says_in : (name : List ℕ) (version : Version) (body : Pairs) (m : Manifest) → manifest_in name version body ≡ Ok m → Says (dict body) m
 says_in name version body m is =
     let done = steps_done (are_as_asked (told_by name version) body) (in_field (codes "frozen?") (truth_of (pair_at (codes "frozen?") body)))
     (in_field metadata_key (then_do (needed metadata_key body) (metadata_of name version))) (with_segments segments body []) (made_of name version body) m is in
-    subst (Says (dict body)) done.made (record {
-      needs = needs_said name version body done.own done.metadata_is;
-      frozen = ap (read_or false) (field_done (codes "frozen?") (truth_of (pair_at (codes "frozen?") body)) done.is_frozen done.frozen_is);
-      sums = sym (segments_sums segments body [] done.entries done.files_is);
-    })
+    subst (Says (dict body)) done.made (parts_said name version body (made_of name version body done.is_frozen done.own done.entries) done.metadata_is done.frozen_is done.files_is)
+
+artifact_says_in : (name id : List ℕ) (body : Pairs) (m : Manifest) → artifact_in name id body ≡ Ok m → Says (dict body) m
+artifact_says_in name id body m is =
+    let named = then_done (are_as_asked (named_rows name) body) _ m is in
+    let version = then_done (in_field (codes "version") (then_do (needed (codes "version") body) version_of)) _ m named.2 in
+    let stated = then_done (are_as_asked stated_rows body) _ m version.2 in
+    let frozen = then_done (in_field (codes "frozen?") (truth_of (pair_at (codes "frozen?") body))) _ m stated.2 in
+    let metadata = then_done (in_field metadata_key (then_do (needed metadata_key body) (metadata_of name version.0))) _ m frozen.2 in
+    let files = then_done (with_segments segments body []) _ m metadata.2 in
+    let identified = then_done (in_field identifier_key (then_do (needed identifier_key body) (is_identified id))) _ m files.2 in
+    subst (Says (dict body)) (same_ok MetaFault _ m identified.2) (parts_said name version.0 body _ metadata.1 frozen.1 files.1)
 
 -- what a document gives as a manifest says what the manifest does
 pub says : (name : List ℕ) (version : Version) (d : Doc) (m : Manifest) → manifest_from name version d ≡ Ok m → Says d m
@@ -145,6 +162,15 @@ says name version (whole z) m is = cc
 says name version (words text) m is = cc
 says name version (list ds) m is = cc
 says name version (dict body) m is = says_in name version body m is
+
+-- and what it gives as an artifact says what the artifact does
+pub artifact_says : (name id : List ℕ) (d : Doc) (m : Manifest) → artifact_from name id d ≡ Ok m → Says d m
+artifact_says name id null m is = cc
+artifact_says name id (boolean b) m is = cc
+artifact_says name id (whole z) m is = cc
+artifact_says name id (words text) m is = cc
+artifact_says name id (list ds) m is = cc
+artifact_says name id (dict body) m is = artifact_says_in name id body m is
 
 -- and the manifest names its files by checksums
 pub sums_known : (name : List ℕ) (version : Version) (d : Doc) (m : Manifest) → manifest_from name version d ≡ Ok m → HasChecksums m.files

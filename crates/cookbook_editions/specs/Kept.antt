@@ -3,6 +3,7 @@ use Rattle.std.specs.Prelude.{◌≡◌, ℕ, List, Result, Ok}
 use Rattle.doc_tree.specs.Doc.{Doc}
 use Rattle.doc_tree.specs.Tree.{doc_of}
 use Rattle.version_rules.specs.declared.versions.Version.{Version}
+use Rattle.cookbook_meta.specs.Artifacts.{artifact_from}
 use Rattle.cookbook_meta.specs.Checksums.{checksums_of}
 use Rattle.cookbook_meta.specs.Faults.{then_do}
 use Rattle.cookbook_meta.specs.Manifests.{manifest_from}
@@ -22,6 +23,16 @@ stored_from name version body = then_do (manifest_from name version body) (λ m.
 pub record IsStored (name : List ℕ) (version : Version) (doc : Doc) : Type 0 where
   pub manifest : Manifest
   pub read : manifest_from name version doc ≡ Ok manifest
+  pub whole : doc_of manifest.whole ≡ doc
+
+-- what is stored of the artifact that a document gives under this name and identifier
+abbrev pub artifact_stored_from : List ℕ → List ℕ → Doc → Result Doc MetaFault
+artifact_stored_from name id body = then_do (artifact_from name id body) (λ m. Ok (doc_of m.whole))
+
+-- the document is what is stored of an artifact of this name and identifier
+pub record IsStoredArtifact (name id : List ℕ) (doc : Doc) : Type 0 where
+  pub manifest : Manifest
+  pub read : artifact_from name id doc ≡ Ok manifest
   pub whole : doc_of manifest.whole ≡ doc
 
 -- the document says of needs, freezing and checksums what the manifest does

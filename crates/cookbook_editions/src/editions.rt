@@ -1,4 +1,4 @@
-//! Stored versions of cookbooks.
+//! Stored versions and artifacts of cookbooks.
 ghost use Rattle.std.specs.Prelude.{◌≡◌, ℕ, true, List, IfOk, IsTrue, codes, option_map};
 ghost use Rattle.doc_tree.specs.Doc.{boolean};
 ghost use Rattle.doc_tree.specs.Part.{part_at, with_pair};
@@ -10,10 +10,12 @@ ghost use Rattle.cookbook_meta.specs.Parts.{is_checksum};
 ghost use Rattle.cookbook_meta.specs.Sound.{HasChecksums};
 ghost use Rattle.cookbook_editions.specs.Editions as spec;
 ghost use Rattle.cookbook_editions.specs.Frozen.{freeze};
-ghost use Rattle.cookbook_editions.specs.Kept.{IsKept, IsStored, stored_from};
+ghost use Rattle.cookbook_editions.specs.Kept.{IsKept, IsStored, IsStoredArtifact, Says, artifact_stored_from, stored_from};
 
-use crate::laws::{manifests_are_kept, manifests_are_stored, version_fits};
-use cookbook_meta::{Entry, Manifest, MetaFault, Metadata, read_manifest};
+use crate::laws::{artifacts_are_stored, manifests_are_kept, manifests_are_stored, version_fits};
+use cookbook_meta::{
+    Entry, Manifest, MetaFault, Metadata, artifacts_read_back, read_artifact, read_manifest,
+};
 use dep_solver::Release;
 use doc_tree::{Fields, Name, NoMemory, Text, Tree};
 use sandboxes::{Checksum, Sums, read_checksum};
@@ -22,7 +24,7 @@ use std::alloc::Global;
 use std::marker::Model;
 use version_rules::{Needs, Version};
 
-/// A stored version of a cookbook: its stored object, with its needs, whether it is frozen and the checksums of its
+/// A stored version of a cookbook, or a stored artifact: its stored object, with its needs, whether it is frozen and the checksums of its
 /// files at hand. Contracts see the stored object's document.
 #[derive(Drop)]
 pub struct Edition {
@@ -66,11 +68,38 @@ impl Edition {
         Ok(Edition::of(alloc, manifest)?)
     }
 
+    /// What is stored of the artifact that a body gives under this cookbook's name and this identifier, or the fault of
+    /// `read_artifact`.
+    pub fn read_artifact(
+        alloc: Global,
+        body: &Tree,
+        name: &Name,
+        id: &Text,
+    ) -> Result<Edition, MetaFault>
+        ensures given { Gives result (artifact_stored_from name.now id.now (doc_of body.now)) }
+        ensures stored { IfOk result (IsStoredArtifact name.now id.now) }
+    {
+        artifacts_read_back();
+        artifacts_are_stored();
+        let manifest = read_artifact(alloc, body, name, id)?;
+        version_fits(&manifest.version);
+        Ok(Edition::of_manifest(alloc, manifest)?)
+    }
+
     /// What is stored of a manifest, which is moved.
     ///
     /// It requires that the manifest is kept, as each that `read_manifest` gives is (`manifests_are_kept`).
     pub fn of(alloc: Global, manifest: Manifest) -> Result<Edition, NoMemory>
         requires { IsKept manifest }
+        ensures { IfOk result (λ edition. edition ≡ doc_of manifest.whole) }
+    {
+        Edition::of_manifest(alloc, manifest)
+    }
+
+    /// What is stored of a manifest, whose document says what the manifest does.
+    fn of_manifest(alloc: Global, manifest: Manifest) -> Result<Edition, NoMemory>
+        requires says { Says (doc_of manifest.whole) manifest }
+        requires sums { HasChecksums manifest.files }
         ensures { IfOk result (λ edition. edition ≡ doc_of manifest.whole) }
     {
         let sums = sums_of(alloc, manifest.files.as_slice())?;

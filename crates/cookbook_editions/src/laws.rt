@@ -1,9 +1,9 @@
-//! Laws: what holds of every stored manifest.
+//! Laws: what holds of every stored manifest and artifact.
 ghost use Rattle.std.specs.Prelude.{◌<◌, ◌^◌};
 ghost use Rattle.version_rules.specs.Laws.{FitsVersion};
-ghost use Rattle.cookbook_editions.specs.Laws.{FrozenAreStored, ManifestsAreKept, ManifestsAreStored, StoredManifestsSay};
+ghost use Rattle.cookbook_editions.specs.Laws.{ArtifactsAreStored, FrozenAreStored, ManifestsAreKept, ManifestsAreStored, StoredManifestsSay};
 
-use cookbook_meta::manifests_read_back;
+use cookbook_meta::{artifacts_read_back, manifests_read_back};
 use version_rules::Version;
 
 /// A manifest that `read_manifest` gives is kept: it is read again, under its own name and version, from its stored
@@ -19,6 +19,13 @@ pub fn manifests_are_stored()
     ensures { ManifestsAreStored }
 {
     manifests_read_back();
+}
+
+/// What is stored of an artifact that `read_artifact` gives is of that name and identifier.
+pub fn artifacts_are_stored()
+    ensures { ArtifactsAreStored }
+{
+    artifacts_read_back();
 }
 
 /// What is stored of a manifest says of needs, freezing and checksums what the manifest does.

@@ -9,7 +9,8 @@ mod universes;
 
 pub use editions::Edition;
 pub use laws::{
-    frozen_are_stored, manifests_are_kept, manifests_are_stored, stored_manifests_say, version_fits,
+    artifacts_are_stored, frozen_are_stored, manifests_are_kept, manifests_are_stored,
+    stored_manifests_say, version_fits,
 };
 pub use showing::shown;
 pub use universes::universe_of;

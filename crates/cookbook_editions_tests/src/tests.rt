@@ -1,8 +1,8 @@
 //! What no clause says: that the calls succeed, and that the definitions are those of the product. Each line has a body
-//! under the name `web` and the version 1.0.0, and what its edition tells, or the fault.
+//! under the name `web` and the version 1.0.0, or an identifier, and what its edition tells, or the fault.
 use cookbook_editions::{
-    Edition, frozen_are_stored, manifests_are_kept, manifests_are_stored, shown,
-    stored_manifests_say,
+    Edition, artifacts_are_stored, frozen_are_stored, manifests_are_kept, manifests_are_stored,
+    shown, stored_manifests_say,
 };
 use doc_tree::{Name, Text, Tree, json_text, read_json};
 use sandboxes::{Checksum, read_checksum};
@@ -33,6 +33,28 @@ const FROZEN: &str =
 const DEPENDENCIES: &str = r#"{"metadata":{"name":"web","version":"1.0.0"},"version":"1.0.0"} => {}
 {"metadata":{"name":"web","version":"1.0.0","dependencies":{"db":"~>1.2","apt":" 1.0.0 "}},"version":"1.0.0"} => {"apt":" 1.0.0 ","db":"~>1.2"}
 "#;
+
+/// Artifacts under the name `web` and one identifier, and what each tells as a version does, or the fault.
+const ARTIFACTS_TOLD: &str =
+    r#"{"name":"web","version":"1.0.0","identifier":"0123456789abcdef0123456789abcdef01234567","metadata":{"name":"web","version":"1.0.0","dependencies":{"db":"~> 1.2"}},"recipes":[{"name":"a","path":"a","checksum":"900150983cd24fb0d6963f7d28e17f72"}]} => frozen false, needs [db ~> 1.2;], sums [900150983cd24fb0d6963f7d28e17f72;], abc true, release 1.0.0 [db ~> 1.2;]
+{"cookbook_name":"db","frozen?":true,"version":"1.0.0","identifier":"0123456789abcdef0123456789abcdef01234567","metadata":{"name":"web","version":"1.0.0"}} => frozen true, needs [], sums [], abc false, release 1.0.0 []
+{"name":"web","version":"1.0.0","identifier":"1123456789abcdef0123456789abcdef01234567","metadata":{"name":"web","version":"1.0.0"}} => field identifier tells another name or version
+{"name":"web","version":"1.0.0","metadata":{"name":"web","version":"1.0.0"}} => field identifier is missing
+{"name":"web-1.0.0","version":"1.0.0","identifier":"0123456789abcdef0123456789abcdef01234567","metadata":{"name":"web","version":"1.0.0"}} => field name tells another name or version
+[] => field name hasn't its form
+"#;
+
+/// An artifact as a reply shows it: what is stored has no `cookbook_name`.
+const ARTIFACTS_SHOWN: &str =
+    r#"{"cookbook_name":"db","access":1,"version":"1.0.0","identifier":"0123456789abcdef0123456789abcdef01234567","metadata":{"name":"web","version":"1.0.0"},"recipes":[{"name":"a","path":"a","checksum":"900150983cd24fb0d6963f7d28e17f72"}]} => {"access":1,"attributes":[],"chef_type":"cookbook_version","definitions":[],"files":[],"frozen?":false,"identifier":"0123456789abcdef0123456789abcdef01234567","json_class":"Chef::CookbookVersion","libraries":[],"metadata":{"dependencies":{},"name":"web","version":"1.0.0"},"name":"web","providers":[],"recipes":[{"checksum":"900150983cd24fb0d6963f7d28e17f72","name":"a","path":"a","specificity":"default","url":"/organizations/acme/files/900150983cd24fb0d6963f7d28e17f72"}],"resources":[],"root_files":[],"templates":[],"version":"1.0.0"}
+"#;
+
+/// What a body is read as.
+#[derive(Clone, Copy)]
+enum Reading {
+    Version,
+    Artifact,
+}
 
 /// What is asked of an edition.
 #[derive(Clone, Copy)]
@@ -105,30 +127,40 @@ fn answer(
 }
 
 /// What the edition of a body answers, or the fault.
-fn answered(alloc: Global, asked: Asked, body: &Tree) -> Result<String, Fail> {
+fn answered(alloc: Global, reading: Reading, asked: Asked, body: &Tree) -> Result<String, Fail> {
     let name = Name::of(Text::from_str(alloc, "web")?)
         .ok()
         .ok_or("a name")?;
+    let id = Text::from_str(alloc, "0123456789abcdef0123456789abcdef01234567")?;
     let version = parse_version("1.0.0").ok().ok_or("a version")?;
-    match Edition::read(alloc, body, &name, &version) {
+    let read = match reading {
+        Reading::Version => Edition::read(alloc, body, &name, &version),
+        Reading::Artifact => Edition::read_artifact(alloc, body, &name, &id),
+    };
+    match read {
         Ok(edition) => answer(alloc, asked, &edition, version),
         Err(fault) => Ok(fault.to_string(alloc)?),
     }
 }
 
 /// A line, as its body answers.
-fn line_told(alloc: Global, asked: Asked, line: &str) -> Result<String, Fail> {
+fn line_told(alloc: Global, reading: Reading, asked: Asked, line: &str) -> Result<String, Fail> {
     let (body, _) = line.split_once(" => ").unwrap_or((line, ""));
     let tree = read_json(alloc, body.as_bytes())?;
-    let told = answered(alloc, asked, &tree)?;
+    let told = answered(alloc, reading, asked, &tree)?;
     Ok(format!(in alloc; "{body} => {told}")?)
 }
 
 /// The lines that are answered otherwise.
-fn lines_otherwise(alloc: Global, asked: Asked, lines: &str) -> Result<String, Fail> {
+fn lines_otherwise(
+    alloc: Global,
+    reading: Reading,
+    asked: Asked,
+    lines: &str,
+) -> Result<String, Fail> {
     let mut otherwise = String::new(alloc);
     for line in lines.lines() {
-        let told = line_told(alloc, asked, line)?;
+        let told = line_told(alloc, reading, asked, line)?;
         if told.as_str() != line {
             otherwise.push_str(told.as_str())?;
             otherwise.push_str("\n")?;
@@ -143,13 +175,28 @@ fn editions_answer_as_their_manifests(rt: HostRuntime) -> Result<(), Fail> {
     manifests_are_stored();
     stored_manifests_say();
     frozen_are_stored();
-    let told = lines_otherwise(rt.alloc(), Asked::Told, TOLD)?;
+    let told = lines_otherwise(rt.alloc(), Reading::Version, Asked::Told, TOLD)?;
     assert_eq!(rt; told.as_str(), "");
-    let shown = lines_otherwise(rt.alloc(), Asked::Shown, SHOWN)?;
+    let shown = lines_otherwise(rt.alloc(), Reading::Version, Asked::Shown, SHOWN)?;
     assert_eq!(rt; shown.as_str(), "");
-    let frozen = lines_otherwise(rt.alloc(), Asked::Frozen, FROZEN)?;
+    let frozen = lines_otherwise(rt.alloc(), Reading::Version, Asked::Frozen, FROZEN)?;
     assert_eq!(rt; frozen.as_str(), "");
-    let dependencies = lines_otherwise(rt.alloc(), Asked::Dependencies, DEPENDENCIES)?;
+    let dependencies = lines_otherwise(
+        rt.alloc(),
+        Reading::Version,
+        Asked::Dependencies,
+        DEPENDENCIES,
+    )?;
     assert_eq!(rt; dependencies.as_str(), "");
+    Ok(())
+}
+
+#[test]
+fn artifacts_answer_as_their_manifests(rt: HostRuntime) -> Result<(), Fail> {
+    artifacts_are_stored();
+    let told = lines_otherwise(rt.alloc(), Reading::Artifact, Asked::Told, ARTIFACTS_TOLD)?;
+    assert_eq!(rt; told.as_str(), "");
+    let shown = lines_otherwise(rt.alloc(), Reading::Artifact, Asked::Shown, ARTIFACTS_SHOWN)?;
+    assert_eq!(rt; shown.as_str(), "");
     Ok(())
 }

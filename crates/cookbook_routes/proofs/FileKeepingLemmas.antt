@@ -15,18 +15,19 @@ use Rattle.sandboxes.specs.Sandboxes.{Holding}
 use Rattle.sandboxes.specs.Sums.{Sums, lists}
 use Rattle.shelves.specs.Shelves.{has_shelf}
 use Rattle.org_core.proofs.FileConditionsLemmas.{moves_keep_files, put_keeps_files}
-use Rattle.org_core.proofs.VersionLemmas.{lists_filtered}
+use Rattle.org_shelves.proofs.DroppedLemmas.{lists_filtered}
+use Rattle.org_shelves.specs.Files.{is_committed}
 use Rattle.org_core.specs.Contexts.{Context}
 use Rattle.org_core.specs.Creating.{created_list}
-use Rattle.org_core.specs.FileMoves.{takes_shelf_room, versions_put_in}
-use Rattle.org_core.specs.FullStates.{MeetsFileConditions, is_committed}
+use Rattle.org_core.specs.FileMoves.{takes_shelf_room, shelved_by}
+use Rattle.org_core.specs.FullStates.{MeetsFileConditions}
 use Rattle.org_core.specs.Keeping.{KeepsFileConditions, LeadsToFileConditions, full_of}
 use Rattle.org_core.specs.Refusals.{first_some, refuses}
 use Rattle.org_core.specs.States.{cookbooks_of, object_in}
-use Rattle.org_core.specs.declared.cookbook_moves.CookbookMove.TheVariants as cookbooks
+use Rattle.org_shelves.specs.declared.shelf_moves.ShelfMove.TheVariants as shelf
 use Rattle.org_core.specs.declared.file_moves.FileMove.TheVariants as files
 use Rattle.org_core.specs.declared.moves.Move.{Move}
-use Rattle.org_core.specs.declared.moves.Move.TheVariants.{OnCookbooks, OnFiles, PutList, TakeList}
+use Rattle.org_core.specs.declared.moves.Move.TheVariants.{OnShelves, OnFiles, PutList, TakeList}
 use Rattle.org_core.specs.declared.refusals.Refusal.{Refusal}
 use Rattle.org_core.specs.declared.refusals.Refusal.TheVariants.{Frozen}
 use Rattle.cookbook_routes.specs.declared.operations.CookbookOperation.{CookbookOperation}
@@ -76,7 +77,7 @@ same_names found manifest sum =
 
 -- ---- whatever is done
 
-list_puts_none : (b : Bool) (one : Move) → takes_shelf_room one ≡ false → versions_put_in (cond b [] (one ∷ [])) ≡ 0
+list_puts_none : (b : Bool) (one : Move) → takes_shelf_room one ≡ false → shelved_by (cond b [] (one ∷ [])) ≡ 0
 list_puts_none true one none = refl
 list_puts_none false one none = ap (λ (b : Bool). length (cond b (one ∷ []) [])) none
 
@@ -102,12 +103,12 @@ does_keep_files context (operation.PutVersion name version manifest forced) meet
     let found : Option Doc = stored_at context name version in
     let none : missing_sums context.files manifest ≡ [] =
     none_told (missing_sums context.files manifest) (second_none (is_frozen_found found && not forced) (missing_told (missing_sums context.files manifest)) free) in
-    put_keeps_files context.org (OnCookbooks (cookbooks.PutVersion name version (stored_over found manifest)))
+    put_keeps_files context.org (OnShelves (shelf.PutVersion name version (stored_over found manifest)))
     (cond (has_shelf (cookbooks_of context.state) name) [] (PutList (key kinds.Cookbook name) (created_list container.Cookbooks context) ∷ [])) (full_of context)
     (list_puts_none (has_shelf (cookbooks_of context.state) name) (PutList (key kinds.Cookbook name) (created_list container.Cookbooks context)) refl)
     (λ sum names. named_there context.files manifest none sum (same_names found manifest sum names)) meets
 does_keep_files context (operation.RemoveVersion name version) meets free =
-    put_keeps_files context.org (OnCookbooks (cookbooks.TakeVersion name version)) (cond (keeps_others (cookbooks_of context.state) name version) [] (TakeList (key kinds.Cookbook name) ∷ [])) (full_of context)
+    put_keeps_files context.org (OnShelves (shelf.TakeVersion name version)) (cond (keeps_others (cookbooks_of context.state) name version) [] (TakeList (key kinds.Cookbook name) ∷ [])) (full_of context)
     (list_puts_none (keeps_others (cookbooks_of context.state) name version) (TakeList (key kinds.Cookbook name)) refl) tt meets
 does_keep_files context operation.ShowUniverse meets free = meets
 does_keep_files context (operation.SolveVersions environment roots) meets free =

@@ -17,15 +17,15 @@ use Rattle.shelves.proofs.ShelfLaws.{value-has_shelf}
 use Rattle.shelves.specs.Shelves.{has_shelf, value_at}
 use Rattle.version_rules.specs.declared.versions.Version.{Version}
 use Rattle.org_core.proofs.ConditionsLemmas.{created_known}
-use Rattle.org_core.proofs.CookbookConditionsLemmas.{first_version_keeps, last_version_keeps, put_version_keeps, take_version_keeps}
+use Rattle.org_core.proofs.ShelfConditionsLemmas.{first_version_keeps, last_version_keeps, put_version_keeps, take_version_keeps}
 use Rattle.org_core.specs.declared.file_moves.FileMove.{FileMove}
 use Rattle.org_core.specs.declared.file_moves.FileMove.TheVariants as files
 use Rattle.org_core.specs.declared.moves.Move.{Move}
-use Rattle.org_core.specs.declared.cookbook_moves.CookbookMove.TheVariants.{PutVersion, TakeVersion}
-use Rattle.org_core.specs.declared.moves.Move.TheVariants.{OnCookbooks, OnFiles, PutList, TakeList}
+use Rattle.org_shelves.specs.declared.shelf_moves.ShelfMove.TheVariants.{PutVersion, TakeVersion}
+use Rattle.org_core.specs.declared.moves.Move.TheVariants.{OnShelves, OnFiles, PutList, TakeList}
 use Rattle.org_core.specs.Conditions.{MeetsConditions}
 use Rattle.org_core.specs.Contexts.{Context, in_state}
-use Rattle.org_core.specs.CookbookConditions.{IsVersionOf}
+use Rattle.org_shelves.specs.Conditions.{IsVersionOf}
 use Rattle.org_core.specs.Creating.{created_list}
 use Rattle.org_core.specs.Keeping.{KeepsConditions, LeadsToConditions, Someone}
 use Rattle.org_core.specs.Moves.{after_moves}
@@ -63,11 +63,11 @@ over_is found name version manifest (named, stored) =
 
 -- a version is put in, with the list of a cookbook that isn't there
 abbrev put_first : Bool → List ℕ → Version → Doc → Acl → List Move
-put_first b name version manifest list = OnCookbooks (PutVersion name version manifest) ∷ cond b [] (PutList (key kinds.Cookbook name) list ∷ [])
+put_first b name version manifest list = OnShelves (PutVersion name version manifest) ∷ cond b [] (PutList (key kinds.Cookbook name) list ∷ [])
 
 -- a version goes, with the list of a cookbook that isn't there without it
 abbrev take_last : Bool → List ℕ → Version → List Move
-take_last b name version = OnCookbooks (TakeVersion name version) ∷ cond b [] (TakeList (key kinds.Cookbook name) ∷ [])
+take_last b name version = OnShelves (TakeVersion name version) ∷ cond b [] (TakeList (key kinds.Cookbook name) ∷ [])
 
 -- who isn't there stays so
 nobody_put : (b : Bool) (k : Key) (list : Acl) → MeetsConditions (after_moves (cond b [] (PutList k list ∷ [])) None)
@@ -79,7 +79,7 @@ nobody_taken true k = tt
 nobody_taken false k = tt
 
 put_if : (context : Context) (o : Organisation) (name : List ℕ) (version : Version) (manifest : Doc) (b : Bool) → MeetsConditions (Some o) → is_known (in_state (Some o) context) ≡ true → IsVersionOf name version manifest
-    → has_shelf o.cookbooks name ≡ b
+    → has_shelf o.shelved.cookbooks name ≡ b
     → MeetsConditions (after_moves (put_first b name version manifest (created_list container.Cookbooks (in_state (Some o) context))) (Some o))
 put_if context o name version manifest true meets known is there = put_version_keeps o name version manifest meets is there
 put_if context o name version manifest false meets known is none =
@@ -89,12 +89,12 @@ put_if context o name version manifest false meets known is none =
 put_keeps : (context : Context) (state : State) (name : List ℕ) (version : Version) (manifest : Doc) → MeetsConditions state → is_known (in_state state context) ≡ true → IsVersionOf name version manifest
     → MeetsConditions (after_moves (put_moves (in_state state context) name version manifest) state)
 put_keeps context None name version manifest meets known is = nobody_put (has_shelf _ name) (key kinds.Cookbook name) (created_list container.Cookbooks (in_state None context))
-put_keeps context (Some o) name version manifest meets known is = put_if context o name version manifest (has_shelf o.cookbooks name) meets known is refl
+put_keeps context (Some o) name version manifest meets known is = put_if context o name version manifest (has_shelf o.shelved.cookbooks name) meets known is refl
 
-remove_if : (o : Organisation) (name : List ℕ) (version : Version) (b : Bool) → MeetsConditions (Some o) → has_shelf o.cookbooks name ≡ true → keeps_others o.cookbooks name version ≡ b
+remove_if : (o : Organisation) (name : List ℕ) (version : Version) (b : Bool) → MeetsConditions (Some o) → has_shelf o.shelved.cookbooks name ≡ true → keeps_others o.shelved.cookbooks name version ≡ b
     → MeetsConditions (after_moves (take_last b name version) (Some o))
 remove_if o name version true meets there stays = take_version_keeps o name version meets there stays
-remove_if o name version false meets there gone = last_version_keeps o name version meets gone
+remove_if o name version false meets there gone = last_version_keeps o name version meets there gone
 
 some_there : (found : Option Doc) → is_some found ≡ true → (manifest : Doc) × (found ≡ Some manifest)
 some_there None is = cc
@@ -104,8 +104,8 @@ remove_keeps : (context : Context) (state : State) (name : List ℕ) (version : 
     → MeetsConditions (after_moves (removal (in_state state context) name version) state)
 remove_keeps context None name version meets there = nobody_taken (keeps_others _ name version) (key kinds.Cookbook name)
 remove_keeps context (Some o) name version meets there =
-    let (manifest, stands) = some_there (value_at o.cookbooks name version) there in
-    remove_if o name version (keeps_others o.cookbooks name version) meets (value-has_shelf versions_total o.cookbooks name version manifest stands) refl
+    let (manifest, stands) = some_there (value_at o.shelved.cookbooks name version) there in
+    remove_if o name version (keeps_others o.shelved.cookbooks name version) meets (value-has_shelf versions_total o.shelved.cookbooks name version manifest stands) refl
 
 not_lacking : (named : Bool) (there : Bool) → not (named && there) ≡ false → there ≡ true
 not_lacking true true is = refl

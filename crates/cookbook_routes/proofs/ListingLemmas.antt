@@ -8,7 +8,7 @@ use Rattle.cookbook_editions.specs.Rising.{keys_rise}
 use Rattle.doc_tree.specs.Doc.{Doc, dict, pairs_of}
 use Rattle.doc_tree.specs.Valid.{InOrder}
 use Rattle.org_core.proofs.ListingLemmas.{InOrder-upto}
-use Rattle.org_core.specs.States.{Cookbooks}
+use Rattle.org_shelves.specs.Shelved.{Cookbooks}
 use Rattle.shelves.specs.Shelves.{text_cmp}
 use Rattle.shelves.specs.SortedMap.{Sorted, map_of}
 use Rattle.version_rules.specs.Order.{version_cmp}

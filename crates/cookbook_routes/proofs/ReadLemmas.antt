@@ -25,7 +25,7 @@ use Rattle.version_rules.specs.declared.fault.VersionFault.{VersionFault}
 use Rattle.version_rules.specs.declared.fault.VersionFault.TheVariants.{NotAVersion, PartTooLarge}
 use Rattle.version_rules.specs.declared.versions.Version.{Version as VersionNumber}
 use Rattle.org_core.specs.Bodies.{document_in}
-use Rattle.org_core.specs.CookbookConditions.{IsVersionOf}
+use Rattle.org_shelves.specs.Conditions.{IsVersionOf}
 use Rattle.org_core.specs.declared.refusals.Refusal.{Refusal}
 use Rattle.org_core.specs.declared.requests.Body.{Body}
 use Rattle.org_core.specs.declared.requests.Parameter.{Parameter}

@@ -10,7 +10,7 @@ use Rattle.shelves.specs.SortedMap.{last_entry, without_key}
 use Rattle.shelves.proofs.ShelfLaws.{get-insert_same, same_name, without_key-remove}
 use Rattle.version_rules.specs.Order.{version_cmp}
 use Rattle.version_rules.specs.declared.versions.Version.{Version}
-use Rattle.org_core.specs.States.{Cookbooks}
+use Rattle.org_shelves.specs.Shelved.{Cookbooks}
 use Rattle.cookbook_routes.specs.Versions.{keeps_others, latest_of}
 
 -- ---- no shelf

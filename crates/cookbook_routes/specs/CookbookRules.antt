@@ -16,7 +16,7 @@ use Rattle.shelves.specs.Shelves.{has_shelf}
 use Rattle.version_rules.specs.declared.versions.Version.{Version as VersionNumber}
 use Rattle.org_core.specs.Bodies.{absent, document_in}
 use Rattle.org_core.specs.Contexts.{Context}
-use Rattle.org_core.specs.FullStates.{is_committed}
+use Rattle.org_shelves.specs.Files.{is_committed}
 use Rattle.org_core.specs.Outcomes.{Decided}
 use Rattle.org_core.specs.Rules.{Rules}
 use Rattle.org_core.specs.States.{cookbooks_of, has_object}

@@ -9,7 +9,8 @@ use Rattle.version_rules.specs.declared.versions.Version.{Version}
 use Rattle.org_core.specs.Outcomes.{Decided, shows, tells}
 use Rattle.org_core.specs.Parameters.{asked_for, largest, number_in, or_bad_parameter}
 use Rattle.org_core.specs.Replies.{one_key, org_uri}
-use Rattle.org_core.specs.States.{Cookbooks, cookbooks_of}
+use Rattle.org_shelves.specs.Shelved.{Cookbooks}
+use Rattle.org_core.specs.States.{cookbooks_of}
 use Rattle.org_core.specs.Contexts.{Context}
 use Rattle.org_core.specs.declared.refusals.Refusal.{Refusal}
 use Rattle.org_core.specs.declared.requests.Parameter.{Parameter}

@@ -8,7 +8,7 @@ use Rattle.sandboxes.specs.Checksums.{is_checksum}
 use Rattle.sandboxes.specs.Sandboxes.{Holding, is_at_end, missing, next_id, sums_of}
 use Rattle.sandboxes.specs.Sums.{Sums}
 use Rattle.org_core.specs.Contexts.{Context}
-use Rattle.org_core.specs.FullStates.{is_committed}
+use Rattle.org_shelves.specs.Files.{is_committed}
 use Rattle.org_core.specs.Outcomes.{Decided, makes, shows, does_by, refuse}
 use Rattle.org_core.specs.Refusals.{refuses}
 use Rattle.org_core.specs.Replies.{org_uri}

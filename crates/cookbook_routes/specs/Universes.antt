@@ -10,7 +10,8 @@ use Rattle.version_rules.specs.declared.versions.Version.{Version}
 use Rattle.org_core.specs.Contexts.{Context}
 use Rattle.org_core.specs.Outcomes.{Decided, shows, does_by}
 use Rattle.org_core.specs.Replies.{org_uri}
-use Rattle.org_core.specs.States.{Cookbooks, cookbooks_of}
+use Rattle.org_shelves.specs.Shelved.{Cookbooks}
+use Rattle.org_core.specs.States.{cookbooks_of}
 
 -- a version in the universe: what it needs, as it is stored, and where it is had
 abbrev pub release_doc : List ℕ → Doc → Doc

@@ -21,13 +21,14 @@ use Rattle.version_rules.specs.declared.fault.VersionFault.{VersionFault}
 use Rattle.version_rules.specs.declared.versions.Version.{Version}
 use Rattle.org_core.specs.Contexts.{Context}
 use Rattle.org_core.specs.Creating.{created_list}
-use Rattle.org_core.specs.FullStates.{is_committed}
+use Rattle.org_shelves.specs.Files.{is_committed}
 use Rattle.org_core.specs.Outcomes.{Told, Decided, shows, makes, does_by, reads}
 use Rattle.org_core.specs.Parameters.{asked_for}
 use Rattle.org_core.specs.Refusals.{refuses, first_some}
 use Rattle.org_core.specs.Replies.{org_uri}
-use Rattle.org_core.specs.States.{Cookbooks, cookbooks_of}
-use Rattle.org_core.specs.declared.cookbook_moves.CookbookMove.TheVariants as cookbooks
+use Rattle.org_shelves.specs.Shelved.{Cookbooks}
+use Rattle.org_core.specs.States.{cookbooks_of}
+use Rattle.org_shelves.specs.declared.shelf_moves.ShelfMove.TheVariants as shelf
 use Rattle.org_core.specs.declared.moves.Move.{Move}
 use Rattle.org_core.specs.declared.moves.Move.TheVariants as move
 use Rattle.org_core.specs.declared.needs.Need.{Need}
@@ -139,7 +140,7 @@ first_list context name = cond (has_shelf (cookbooks_of context.state) name) [] 
 
 -- a version is put in, with the cookbook's list where it is the first
 abbrev pub put_moves : Context → List ℕ → Version → Doc → List Move
-put_moves context name version manifest = move.OnCookbooks (cookbooks.PutVersion name version manifest) ∷ first_list context name
+put_moves context name version manifest = move.OnShelves (shelf.PutVersion name version manifest) ∷ first_list context name
 
 -- a version is put: what stood there was looked at
 abbrev pub version_put : Context → List ℕ → Version → Doc → Decided
@@ -158,7 +159,7 @@ last_list versions name version = cond (keeps_others versions name version) [] (
 
 -- a version goes, with the cookbook's list where it is the last
 abbrev pub removal : Context → List ℕ → Version → List Move
-removal context name version = move.OnCookbooks (cookbooks.TakeVersion name version) ∷ last_list (cookbooks_of context.state) name version
+removal context name version = move.OnShelves (shelf.TakeVersion name version) ∷ last_list (cookbooks_of context.state) name version
 
 -- a version goes: 200 with its manifest as it was
 abbrev pub version_removed : Context → List ℕ → Version → Decided

@@ -3,7 +3,7 @@
 ghost use Rattle.std.specs.Prelude.{◌≡◌, Ok, IfOk, not};
 ghost use Rattle.sandboxes.specs.Sandboxes.{awaits};
 ghost use Rattle.org_core.specs.Contexts.{seen};
-ghost use Rattle.org_core.specs.FullStates.{is_committed as spec_is_committed};
+ghost use Rattle.org_shelves.specs.Files.{is_committed as spec_is_committed};
 ghost use Rattle.org_core.specs.Outcomes.{Finds};
 ghost use Rattle.org_core.specs.Refusals.{Tells};
 ghost use Rattle.cookbook_routes.specs.CookbookRules as rules;

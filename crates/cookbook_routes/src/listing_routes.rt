@@ -10,7 +10,9 @@ ghost use Rattle.version_rules.specs.Order.{version_cmp};
 ghost use Rattle.org_core.specs.Contexts.{seen};
 ghost use Rattle.org_core.specs.Outcomes.{Finds};
 ghost use Rattle.org_core.specs.Refusals.{Tells};
-ghost use Rattle.org_core.specs.States.{cookbooks_in, cookbooks_of};
+ghost use Rattle.org_core.specs.States.{cookbooks_of};
+ghost use Rattle.shelves.specs.Shelves.{shelves_of};
+ghost use Rattle.version_rules.specs.Order.{version_cmp};
 ghost use Rattle.cookbook_routes.specs.CookbookRules as rules;
 ghost use Rattle.cookbook_routes.specs.Listings as spec;
 
@@ -19,9 +21,10 @@ use crate::trees::put;
 use cookbook_editions::Edition;
 use doc_tree::{Fields, NoMemory, Text, Tree, Trees};
 use org_core::{
-    Context, Cookbooks, Moves, Parameter, Prepared, Refusal, Stop, asked_for, joined, number_in,
-    org_uri, shown, shown_key,
+    Context, Moves, Parameter, Prepared, Refusal, Stop, asked_for, joined, number_in, org_uri,
+    shown, shown_key,
 };
+use org_shelves::Cookbooks;
 use route_table::Verb;
 use shelves::SortedMap;
 use std::alloc::Global;
@@ -100,7 +103,7 @@ fn listing_tree(
     count: Count,
     cookbooks: &Cookbooks,
 ) -> Result<Tree, NoMemory>
-    ensures { IfOk result (λ tree. doc_of tree ≡ spec.listing_doc org.now count (cookbooks_in cookbooks.now)) }
+    ensures { IfOk result (λ tree. doc_of tree ≡ spec.listing_doc org.now count (shelves_of version_cmp cookbooks.now)) }
 {
     let mut fields = Fields::new(alloc);
     for (name, shelf) in cookbooks.shelves() {

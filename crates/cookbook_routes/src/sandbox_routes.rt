@@ -12,7 +12,7 @@ ghost use Rattle.sandboxes.specs.Sandboxes as holdings;
 ghost use Rattle.sandboxes.specs.Sums.{IsRising};
 ghost use Rattle.org_core.specs.Bodies as bodies;
 ghost use Rattle.org_core.specs.Contexts.{seen};
-ghost use Rattle.org_core.specs.FullStates.{is_committed as spec_is_committed};
+ghost use Rattle.org_shelves.specs.Files.{is_committed as spec_is_committed};
 ghost use Rattle.org_core.specs.Outcomes.{Finds};
 ghost use Rattle.org_core.specs.Refusals.{Tells, refuses};
 ghost use Rattle.cookbook_routes.specs.CookbookRules as rules;

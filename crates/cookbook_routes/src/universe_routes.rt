@@ -9,7 +9,8 @@ ghost use Rattle.version_rules.specs.Order.{version_cmp};
 ghost use Rattle.org_core.specs.Contexts.{seen};
 ghost use Rattle.org_core.specs.Outcomes.{Finds, Looked};
 ghost use Rattle.org_core.specs.Refusals.{Tells};
-ghost use Rattle.org_core.specs.States.{cookbooks_in};
+ghost use Rattle.shelves.specs.Shelves.{shelves_of};
+ghost use Rattle.version_rules.specs.Order.{version_cmp};
 ghost use Rattle.cookbook_routes.specs.CookbookRules as rules;
 ghost use Rattle.cookbook_routes.specs.Universes as spec;
 
@@ -17,7 +18,8 @@ use crate::operations::CookbookOperation;
 use crate::trees::put;
 use cookbook_editions::Edition;
 use doc_tree::{Fields, NoMemory, Steps, Text, Tree};
-use org_core::{Context, Cookbooks, Moves, Prepared, Refusal, Stop, org_uri, shown};
+use org_core::{Context, Moves, Prepared, Refusal, Stop, org_uri, shown};
+use org_shelves::Cookbooks;
 use route_table::Verb;
 use shelves::SortedMap;
 use std::alloc::Global;
@@ -56,7 +58,7 @@ pub(crate) fn show_universe<L: Ledger>(
 
 // Each version is looked at.
 fn look_at_all<L: Ledger>(cookbooks: &Cookbooks, steps: &mut Steps<L>)
-    ensures { steps.new ≡ steps.old + spec.count_versions (finite.entries (cookbooks_in cookbooks.now)) }
+    ensures { steps.new ≡ steps.old + spec.count_versions (finite.entries (shelves_of version_cmp cookbooks.now)) }
 {
     for (_, shelf) in cookbooks.shelves() {
         look_at_each(shelf.entries(), steps);
@@ -73,7 +75,7 @@ pub(crate) fn look_at_each<T, L: Ledger>(items: &[T], steps: &mut Steps<L>)
 }
 
 fn universe_tree(alloc: Global, org: &Text, cookbooks: &Cookbooks) -> Result<Tree, NoMemory>
-    ensures { IfOk result (λ tree. doc_of tree ≡ spec.universe_doc org.now (cookbooks_in cookbooks.now)) }
+    ensures { IfOk result (λ tree. doc_of tree ≡ spec.universe_doc org.now (shelves_of version_cmp cookbooks.now)) }
 {
     let mut fields = Fields::new(alloc);
     for (name, shelf) in cookbooks.shelves() {

@@ -21,10 +21,10 @@ use cookbook_editions::{Edition, shown as shown_manifest};
 use cookbook_meta::MetaFault;
 use doc_tree::{Kind, Name, NoMemory, Steps, Text, Tree, is_name};
 use org_core::{
-    Body, Context, CookbookMove, Move, Moves, Need, Parameter, Prepared, Refusal, Reply, Stop,
-    absent, asked_for, created_list, document_in, joined, key_of, listed_need, made, one_move,
-    org_uri, shown,
+    Body, Context, Move, Moves, Need, Parameter, Prepared, Refusal, Reply, Stop, absent, asked_for,
+    created_list, document_in, joined, key_of, listed_need, made, one_move, org_uri, shown,
 };
+use org_shelves::ShelfMove;
 use route_table::Verb;
 use sandboxes::Sums;
 use std::alloc::Global;
@@ -365,7 +365,7 @@ fn put_moves(
     let key = key_of(alloc, Kind::Cookbook, name.as_str())?;
     let mut moves = one_move(
         alloc,
-        Move::OnCookbooks(CookbookMove::PutVersion(name, version, edition)),
+        Move::OnShelves(ShelfMove::PutVersion(name, version, edition)),
     )?;
     if is_first {
         let list = created_list(alloc, context, Container::Cookbooks)?;
@@ -404,7 +404,7 @@ fn removal(
     let key = key_of(alloc, Kind::Cookbook, name.as_str())?;
     let mut moves = one_move(
         alloc,
-        Move::OnCookbooks(CookbookMove::TakeVersion(name, version)),
+        Move::OnShelves(ShelfMove::TakeVersion(name, version)),
     )?;
     if is_last {
         moves.push(Move::TakeList(key))?;

@@ -2,4 +2,4 @@ pub mod AppendLemmas
 pub mod KeepingLemmas
 pub mod OrderlyLemmas
 pub mod PlainLemmas
-pub mod VersionlessLemmas
+pub mod ShelflessLemmas

@@ -5,7 +5,7 @@ ghost use Rattle.doc_tree.specs.Doc.{words};
 ghost use Rattle.doc_tree.specs.declared.kind.Kind.TheVariants as kinds;
 ghost use Rattle.object_forms.specs.Objects.{object_from};
 ghost use Rattle.org_core.specs.Conditions.{MeetsConditions};
-ghost use Rattle.org_core.specs.Keeping.{Anyone, KeepsConditions, PutsNoVersions, Someone};
+ghost use Rattle.org_core.specs.Keeping.{Anyone, KeepsConditions, NeverShelves, Someone};
 ghost use Rattle.org_core.specs.Moves.{after_moves};
 ghost use Rattle.org_core.specs.Replies.{one_key};
 ghost use Rattle.org_core.specs.declared.collections.Collection as collections;
@@ -28,8 +28,8 @@ pub fn groups_keep_conditions()
 {}
 
 /// These groups put no cookbook version in, so what cookbooks name stays.
-pub fn groups_put_no_versions()
-    ensures organisations { PutsNoVersions organisation_rules }
-    ensures objects { (collection : collections.Collection) → PutsNoVersions (objects_rules collection) }
-    ensures data_bags { PutsNoVersions data_rules }
+pub fn groups_never_shelve()
+    ensures organisations { NeverShelves organisation_rules }
+    ensures objects { (collection : collections.Collection) → NeverShelves (objects_rules collection) }
+    ensures data_bags { NeverShelves data_rules }
 {}

@@ -8,7 +8,7 @@ mod operations;
 mod organisations;
 
 pub use data_bags::DataBags;
-pub use laws::{default_environment_is_read, groups_keep_conditions, groups_put_no_versions};
+pub use laws::{default_environment_is_read, groups_keep_conditions, groups_never_shelve};
 pub use objects::PlainObjects;
 pub use operations::{DataOperation, ObjectsOperation, OrganisationOperation};
 pub use organisations::Organisations;

@@ -51,7 +51,7 @@ person_comes : (kind : MemberKind) (name : List ℕ) (o : Organisation) (new : M
     → ((q : List ℕ) → membership.has new member.Group q ≡ membership.has o.membership member.Group q) → AccessConditions o → membership.is_actor o.membership name ≡ false → is_name name ≡ true
     → AccessConditions (with_membership new o)
 person_comes kind name o new comes same_groups meets free form = record {
-  listed = λ q. meets.listed q ∙ sym (same_listed o (with_membership new o) q.kind q.name (λ own. refl) (λ group. same_groups q.name) (λ cookbook. refl));
+  listed = λ q. meets.listed q ∙ sym (same_listed o (with_membership new o) q.kind q.name (λ own. refl) (λ group. same_groups q.name) refl);
   actors = λ q found p actor is listed. actor_grows kind name o.membership new actor comes (meets.actors q found p actor is listed);
   groups = λ q found p group is listed. comes.grows member.Group group (meets.groups q found p group is listed);
   members = members_come kind name o new comes meets;
@@ -98,7 +98,7 @@ person_goes kind name o new person goes same_groups meets =
     let after : Organisation = with_membership new (with_lists (lists_without_actor name o.lists) o) in
     let stays_group : (q : List ℕ) → membership.has o.membership member.Group q ≡ true → membership.has new member.Group q ≡ true = λ q is. same_groups q ∙ is in
     record {
-      listed = λ q. is_some-map_values (each_entry (without_actor name)) key_cmp_total o.lists q ∙ meets.listed q ∙ sym (same_listed o after q.kind q.name (λ own. refl) (λ group. same_groups q.name) (λ cookbook. refl));
+      listed = λ q. is_some-map_values (each_entry (without_actor name)) key_cmp_total o.lists q ∙ meets.listed q ∙ sym (same_listed o after q.kind q.name (λ own. refl) (λ group. same_groups q.name) refl);
       actors = λ q found p actor is listed.
           let (old, was, same) = changed_list (without_actor name) o.lists q found is in
           let left = lists_without name (entry_of p old).actors actor (subst (λ (e : Entry). lists e.actors actor ≡ true) (entry_changed (without_actor name) found old p same) listed) in
@@ -149,7 +149,7 @@ group_listed o name list q true meets same =
 group_listed o name list q false meets other =
     let after : Organisation = with_lists (finite.insert o.lists (key kinds.Group name) list) (with_membership (put_group name no_members o.membership) o) in
     meets.listed q
-    ∙ sym (same_listed o after q.kind q.name (λ own. refl) (λ group. has-put_group name no_members o.membership q.name (other_group name q group other)) (λ cookbook. refl))
+    ∙ sym (same_listed o after q.kind q.name (λ own. refl) (λ group. has-put_group name no_members o.membership q.name (other_group name q group other)) refl)
 
 -- a group comes without members, with its list
 pub group_comes : (o : Organisation) (name : List ℕ) (list : Acl) → AccessConditions o → NamesKnown o.membership list → is_name name ≡ true
@@ -187,7 +187,7 @@ group_changes o name members meets there known =
     let same_groups : (q : List ℕ) → membership.has new member.Group q ≡ membership.has o.membership member.Group q =
     λ q. ap is_some (get-put o.membership.groups name members q) ∙ there_again o.membership.groups name members q (bytes_eq q name) there refl in
     record {
-      listed = λ q. meets.listed q ∙ sym (same_listed o (with_membership new o) q.kind q.name (λ own. refl) (λ group. same_groups q.name) (λ cookbook. refl));
+      listed = λ q. meets.listed q ∙ sym (same_listed o (with_membership new o) q.kind q.name (λ own. refl) (λ group. same_groups q.name) refl);
       actors = meets.actors;
       groups = λ q found p group is listed. same_groups group ∙ meets.groups q found p group is listed;
       members = λ group found k q is in_it. elim (in_put name members o.membership group k q (found, is, in_it)) [
@@ -219,7 +219,7 @@ taken_listed o name q true meets same =
     subst (λ (x : Key). false ≡ has_listed (without_this_group name o) x.kind x.name) (sym (same_keys q (key kinds.Group name) same)) (sym (has-taken name o.membership name true (itself name)))
 taken_listed o name q false meets other =
     meets.listed q
-    ∙ sym (same_listed o (without_this_group name o) q.kind q.name (λ own. refl) (λ group. has-taken name o.membership q.name false (other_group name q group other)) (λ cookbook. refl))
+    ∙ sym (same_listed o (without_this_group name o) q.kind q.name (λ own. refl) (λ group. has-taken name o.membership q.name false (other_group name q group other)) refl)
 
 not_starting : (name q : List ℕ) → is_starting_group name ≡ false → is_starting_group q ≡ true → q ≡ name → ⊥
 not_starting name q free is same = is_false (is_starting_group name) free (subst (λ (n : List ℕ). is_starting_group n ≡ true) same is)

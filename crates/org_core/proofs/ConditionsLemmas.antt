@@ -26,7 +26,7 @@ use Rattle.org_core.proofs.ObjectConditionsLemmas.{items_taken_out, keeps_bag_re
 use Rattle.org_core.proofs.StartingConditionsLemmas.{key_named, started, starting_known, starts, starts_without_clients}
 use Rattle.org_core.specs.AccessConditions.{AccessConditions, HasItsClients, has_member}
 use Rattle.org_core.specs.Conditions.{MeetsConditions}
-use Rattle.org_core.specs.CookbookConditions.{CookbookConditions}
+use Rattle.org_shelves.proofs.KeepingLemmas.{nothing_meets}
 use Rattle.org_core.specs.Contexts.{Context, in_state}
 use Rattle.org_core.specs.Creating.{container_list, created_list, with_creator}
 use Rattle.org_core.specs.Moves.{after_moves, joins, with_objects}
@@ -246,9 +246,5 @@ remove_group_keeps o name (objects, (access, clients)) free = (objects, (lemmas.
 
 -- ---- a new organisation
 
-starts_without_versions : CookbookConditions finite.empty
-starts_without_versions name version manifest at =
-    cc (sym (ap (λ (found : Option (finite.FinMap version_cmp Doc)). finite.get (unwrap_or found finite.empty) version) (finite.get-empty text_cmp name) ∙ finite.get-empty version_cmp version) ∙ at)
-
 pub start_keeps : (default : Doc) → IsStored kinds.Environment (codes "_default") default → MeetsConditions (Some (started default))
-start_keeps default this = (keeps_first default this, (starts default, (starts_without_clients default, starts_without_versions)))
+start_keeps default this = (keeps_first default this, (starts default, (starts_without_clients default, nothing_meets)))

@@ -5,32 +5,24 @@ use Rattle.std.specs.Cmp.{tied_itself}
 use Rattle.std.specs.Cmp.Lexicographic.{nat_list_cmp_total}
 use Rattle.std.specs.FinMap as finite
 use Rattle.std.specs.Ordering.{eq_by_cmp}
-use Rattle.cookbook_editions.specs.Editions.{names_sum}
-use Rattle.doc_tree.specs.Doc.{Doc}
 use Rattle.sandboxes.proofs.StockLemmas.{get-with_committed}
 use Rattle.sandboxes.specs.Checksums.{text_cmp}
 use Rattle.sandboxes.specs.Sandboxes.{Holding, begun, committed, has_file, is_at_end, nothing, sums_of, upload_fault, uploaded, with_file, with_sandbox}
 use Rattle.sandboxes.specs.Sums.{lists}
 use Rattle.sandboxes.specs.declared.stored.Stored.{Stored}
-use Rattle.shelves.proofs.ShelfLaws.{tied_name, value_at-put, value_at-without}
-use Rattle.shelves.specs.Shelves.{value_at}
-use Rattle.shelves.specs.Shelves.{text_cmp as shelf_names_cmp}
-use Rattle.dep_solver.proofs.VersionLemmas.{versions_total}
-use Rattle.version_rules.specs.Order.{version_cmp}
-use Rattle.version_rules.specs.declared.versions.Version.{Version}
-use Rattle.org_core.proofs.NamedLemmas.{named_by}
-use Rattle.org_core.proofs.VersionLemmas.{is_at, name_moved, others_stay, version_moved}
-use Rattle.org_core.specs.CookbookMoves.{after_cookbook_move, dropped, files_after_cookbook_move, is_named, puts_version}
-use Rattle.org_core.specs.FileMoves.{after_all, after_file_move, files_after, files_after_move, files_within, is_complete, takes_shelf_room, versions_put_in}
-use Rattle.org_core.specs.FullStates.{AreThere, FullState, MeetsFileConditions, is_committed, is_committed_file}
+use Rattle.shelves.proofs.ShelfLaws.{tied_name}
+use Rattle.org_core.specs.FileMoves.{after_all, after_file_move, files_after, files_after_move, files_within, is_complete, takes_shelf_room, shelved_by}
+use Rattle.org_core.specs.FullStates.{FullState, MeetsFileConditions}
 use Rattle.org_core.specs.Moves.{after_move, after_moves, opens, outside, within}
-use Rattle.org_core.specs.States.{Cookbooks, Organisation, State, cookbooks_of}
-use Rattle.org_core.specs.declared.cookbook_moves.CookbookMove.{CookbookMove}
-use Rattle.org_core.specs.declared.cookbook_moves.CookbookMove.TheVariants.{PutVersion, TakeVersion}
+use Rattle.org_core.specs.States.{Organisation, State, shelved_of}
+use Rattle.org_shelves.proofs.StayingLemmas.{nothing_there, stay}
+use Rattle.org_shelves.specs.Files.{AreThere, is_committed, is_committed_file}
+use Rattle.org_shelves.specs.Laws.{NamesWhatIsThere}
+use Rattle.org_shelves.specs.declared.shelf_moves.ShelfMove.TheVariants.{PutVersion, TakeVersion, PutArtifact, TakeArtifact, PutRevision, TakePolicy, PutGroup, TakeGroup}
 use Rattle.org_core.specs.declared.file_moves.FileMove.{FileMove}
 use Rattle.org_core.specs.declared.file_moves.FileMove.TheVariants.{Begin, Upload, Commit}
 use Rattle.org_core.specs.declared.moves.Move.{Move}
-use Rattle.org_core.specs.declared.moves.Move.TheVariants.{Open, Put, TakeOut, PutList, TakeList, AddUser, RemoveUser, AddClient, RemoveClient, PutGroup, RemoveGroup, OnCookbooks, OnFiles}
+use Rattle.org_core.specs.declared.moves.Move.TheVariants.{Open, Put, TakeOut, PutList, TakeList, AddUser, RemoveUser, AddClient, RemoveClient, PutGroup, RemoveGroup, OnShelves, OnFiles}
 
 -- ---- committed files stay committed
 
@@ -78,47 +70,9 @@ file_move_stays org (Begin sums) files sum is = begun_stays org sums files sum i
 file_move_stays org (Upload asked file) files sum is = uploaded_stays asked file files sum is
 file_move_stays org (Commit id) files sum is = elim (is_complete id files) as (λ b. is_committed (cond b (committed id files) files) sum ≡ true) [ true ↦ commit_stays id files sum is | false ↦ is ]
 
--- ---- a cookbook version is put in, or goes
-
-never : (b : Bool) → not (b && false) ≡ true
-never true = refl
-never false = refl
-
--- a committed file that is still named isn't dropped
-kept_named : (before after : List ℕ → Bool) (files : Holding) (sum : List ℕ) → is_committed files sum ≡ true → after sum ≡ true → is_committed (dropped before after files) sum ≡ true
-kept_named before after files sum is named =
-    ap is_committed_file
-    (finite.get-retain_keys files.files (λ s. not (before s && not (after s))) sum (λ x tie. ap (λ (s : List ℕ). not (before s && not (after s))) (finite.slice_cmp-IsAntisymmetric finite.nat_cmp-IsAntisymmetric x sum (same_tie sum x tie)))
-    ∙ ap (λ b. cond b (finite.get files.files sum) None) (ap (λ b. not (before sum && not b)) named ∙ never (before sum)))
-    ∙ is
-  where
-    same_tie : (q x : List ℕ) → text_cmp q x ≡ Equal → text_cmp x q ≡ Equal
-    same_tie q x tie = ap (λ (n : List ℕ). text_cmp n q) (sym (finite.slice_cmp-IsAntisymmetric finite.nat_cmp-IsAntisymmetric q x tie)) ∙ tied_itself nat_list_cmp_total q
-
--- each file that what is put in names is there
-abbrev pub AreNamedThere : CookbookMove → Holding → Type 0
-AreNamedThere (PutVersion name version manifest) files = (sum : List ℕ) → names_sum manifest sum ≡ true → is_committed files sum ≡ true
-AreNamedThere (TakeVersion name version) files = Unit {0}
-
-committed_at : (move : CookbookMove) (cookbooks : Cookbooks) (files : Holding) (n : List ℕ) (v : Version) (manifest : Doc) (sum : List ℕ) (b : Bool) → AreThere cookbooks files → AreNamedThere move files
-    → is_at (name_moved move) (version_moved move) n v ≡ b → value_at (after_cookbook_move move cookbooks) n v ≡ Some manifest → names_sum manifest sum ≡ true → is_committed files sum ≡ true
-committed_at (PutVersion name version put) cookbooks files n v manifest sum true there own at stands names =
-    own sum (subst (λ (m : Doc). names_sum m sum ≡ true) (sym (same_Some put manifest (sym (value_at-put versions_total cookbooks name version put n v ∙ ap (λ b. cond b (Some put) (value_at cookbooks n v)) at) ∙ stands))) names)
-committed_at (TakeVersion name version) cookbooks files n v manifest sum true there own at stands names =
-    cc (sym (value_at-without versions_total cookbooks name version n v ∙ ap (λ b. cond b None (value_at cookbooks n v)) at) ∙ stands)
-committed_at move cookbooks files n v manifest sum false there own apart stands names = there n v manifest sum (sym (others_stay move cookbooks n v apart) ∙ stands) names
-
--- so the files that versions name are there after the move too
-pub cookbook_move_keeps : (move : CookbookMove) (cookbooks : Cookbooks) (files : Holding) → AreThere cookbooks files → AreNamedThere move files
-    → AreThere (after_cookbook_move move cookbooks) (files_after_cookbook_move move cookbooks files)
-cookbook_move_keeps move cookbooks files there own n v manifest sum stands names =
-    let after : Cookbooks = after_cookbook_move move cookbooks in
-    kept_named (is_named cookbooks) (is_named after) files sum (committed_at move cookbooks files n v manifest sum (is_at (name_moved move) (version_moved move) n v) there own refl stands names)
-    (named_by after n v manifest sum stands names)
-
 -- ---- any moves
 
--- each file that a version put in by this move names is there
+-- each file that what this move puts on a shelf names is there
 abbrev pub IsNamedThere : Move → Holding → Type 0
 IsNamedThere Open files = Unit {0}
 IsNamedThere (Put key object) files = Unit {0}
@@ -131,10 +85,10 @@ IsNamedThere (AddClient comer) files = Unit {0}
 IsNamedThere (RemoveClient name) files = Unit {0}
 IsNamedThere (PutGroup name members) files = Unit {0}
 IsNamedThere (RemoveGroup name) files = Unit {0}
-IsNamedThere (OnCookbooks move) files = AreNamedThere move files
+IsNamedThere (OnShelves move) files = NamesWhatIsThere move files
 IsNamedThere (OnFiles move) files = Unit {0}
 
-within_keeps : (org : List ℕ) (move : Move) (o : Organisation) (files : Holding) → AreThere o.cookbooks files → IsNamedThere move files → AreThere (within move o).cookbooks (files_within org move o files)
+within_keeps : (org : List ℕ) (move : Move) (o : Organisation) (files : Holding) → AreThere o.shelved files → IsNamedThere move files → AreThere (within move o).shelved (files_within org move o files)
 within_keeps org Open o files there own = there
 within_keeps org (Put key object) o files there own = there
 within_keeps org (TakeOut key) o files there own = there
@@ -146,14 +100,13 @@ within_keeps org (AddClient comer) o files there own = there
 within_keeps org (RemoveClient name) o files there own = there
 within_keeps org (PutGroup name members) o files there own = there
 within_keeps org (RemoveGroup name) o files there own = there
-within_keeps org (OnCookbooks move) o files there own = cookbook_move_keeps move o.cookbooks files there own
-within_keeps org (OnFiles move) o files there own = λ n v manifest sum stands names. file_move_stays org move files sum (there n v manifest sum stands names)
+within_keeps org (OnShelves move) o files there own = stay move o.shelved files there own
+within_keeps org (OnFiles move) o files there own = λ sum named. file_move_stays org move files sum (there sum named)
 
-nothing_named : (files : Holding) → AreThere (cookbooks_of None) files
-nothing_named files n v manifest sum at names =
-    cc (sym (ap (λ (found : Option (finite.FinMap version_cmp Doc)). finite.get (unwrap_or found finite.empty) v) (finite.get-empty shelf_names_cmp n) ∙ finite.get-empty version_cmp v) ∙ at)
+nothing_named : (files : Holding) → AreThere (shelved_of None) files
+nothing_named files = nothing_there files
 
-opened_keeps : (b : Bool) (files : Holding) → AreThere (cookbooks_of (outside b)) files
+opened_keeps : (b : Bool) (files : Holding) → AreThere (shelved_of (outside b)) files
 opened_keeps true files = nothing_named files
 opened_keeps false files = nothing_named files
 
@@ -162,7 +115,7 @@ pub move_keeps_files : (org : List ℕ) (move : Move) (full : FullState) → Mee
     → MeetsFileConditions (record { state = after_move move full.state; files = files_after_move org move full.state full.files })
 move_keeps_files org move full meets own = keeps full.state full.files meets.nobody meets.named own
   where
-    keeps : (state : State) (files : Holding) → (state ≡ None → files ≡ nothing) → AreThere (cookbooks_of state) files → IsNamedThere move files
+    keeps : (state : State) (files : Holding) → (state ≡ None → files ≡ nothing) → AreThere (shelved_of state) files → IsNamedThere move files
         → MeetsFileConditions (record { state = after_move move state; files = files_after_move org move state files })
     keeps None files nobody there own = record { nobody = λ none. nobody refl; named = opened_keeps (opens move) files }
     keeps (Some o) files nobody there own = record { nobody = λ none. cc; named = within_keeps org move o files there own }
@@ -180,16 +133,22 @@ puts_none (AddClient comer) files none = tt
 puts_none (RemoveClient name) files none = tt
 puts_none (PutGroup name members) files none = tt
 puts_none (RemoveGroup name) files none = tt
-puts_none (OnCookbooks (PutVersion name version manifest)) files none = cc
-puts_none (OnCookbooks (TakeVersion name version)) files none = tt
+puts_none (OnShelves (PutVersion name version manifest)) files none = cc
+puts_none (OnShelves (TakeVersion name version)) files none = tt
+puts_none (OnShelves (PutArtifact name id manifest)) files none = cc
+puts_none (OnShelves (TakeArtifact name id)) files none = tt
+puts_none (OnShelves (PutRevision policy revision lock)) files none = cc
+puts_none (OnShelves (TakePolicy policy)) files none = tt
+puts_none (OnShelves (PutGroup name assigned)) files none = cc
+puts_none (OnShelves (TakeGroup name)) files none = tt
 puts_none (OnFiles move) files none = tt
 
-none_first : (move : Move) (rest : List Move) (b : Bool) → takes_shelf_room move ≡ b → length (cond b (move ∷ filter takes_shelf_room rest) (filter takes_shelf_room rest)) ≡ 0 → (b ≡ false) × (versions_put_in rest ≡ 0)
+none_first : (move : Move) (rest : List Move) (b : Bool) → takes_shelf_room move ≡ b → length (cond b (move ∷ filter takes_shelf_room rest) (filter takes_shelf_room rest)) ≡ 0 → (b ≡ false) × (shelved_by rest ≡ 0)
 none_first move rest true is none = cc
 none_first move rest false is none = (refl, none)
 
--- moves that put no cookbook version in keep them
-pub moves_keep_files : (org : List ℕ) (moves : List Move) (full : FullState) → versions_put_in moves ≡ 0 → MeetsFileConditions full → MeetsFileConditions (after_all org moves full)
+-- moves that put nothing on a shelf keep them
+pub moves_keep_files : (org : List ℕ) (moves : List Move) (full : FullState) → shelved_by moves ≡ 0 → MeetsFileConditions full → MeetsFileConditions (after_all org moves full)
 moves_keep_files org [] full none meets = meets
 moves_keep_files org (move ∷ rest) full none meets =
     let (first, then) = none_first move rest (takes_shelf_room move) refl none in
@@ -197,7 +156,7 @@ moves_keep_files org (move ∷ rest) full none meets =
     (move_keeps_files org move full meets (puts_none move full.files first))
 
 -- and so do those whose first puts one in, where the files that it names are there
-pub put_keeps_files : (org : List ℕ) (move : Move) (rest : List Move) (full : FullState) → versions_put_in rest ≡ 0 → IsNamedThere move full.files → MeetsFileConditions full
+pub put_keeps_files : (org : List ℕ) (move : Move) (rest : List Move) (full : FullState) → shelved_by rest ≡ 0 → IsNamedThere move full.files → MeetsFileConditions full
     → MeetsFileConditions (after_all org (move ∷ rest) full)
 put_keeps_files org move rest full none own meets =
     moves_keep_files org rest (record { state = after_move move full.state; files = files_after_move org move full.state full.files }) none (move_keeps_files org move full meets own)

@@ -5,11 +5,8 @@ pub mod ListedLemmas
 pub mod AccessConditionsLemmas
 pub mod StartingConditionsLemmas
 pub mod ConditionsLemmas
-pub mod EntryLemmas
-pub mod CookbookConditionsLemmas
+pub mod ShelfConditionsLemmas
 pub mod NumberLemmas
-pub mod NamedLemmas
-pub mod VersionLemmas
 pub mod FileLemmas
 pub mod FileConditionsLemmas
 pub mod JoinLemmas

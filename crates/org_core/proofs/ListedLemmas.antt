@@ -17,13 +17,12 @@ use Rattle.access_lists.specs.TextSets.{lists, without}
 use Rattle.access_lists.proofs.TextSetLemmas.{lists-in_order}
 use Rattle.doc_tree.specs.Doc.{Doc}
 use Rattle.doc_tree.specs.declared.kind.Kind.{Kind}
-use Rattle.shelves.specs.Shelves.{has_shelf}
 use Rattle.doc_tree.specs.declared.kind.Kind.TheVariants as kinds
 use Rattle.object_store.specs.Keys.{key_cmp_total}
 use Rattle.object_store.specs.Objects.{Objects, Lists, key_cmp}
 use Rattle.object_store.specs.declared.key.Key.{Key}
 use Rattle.org_core.proofs.ObjectConditionsLemmas.{same_keys, ties_itself}
-use Rattle.org_core.specs.AccessConditions.{has_listed, AccessConditions}
+use Rattle.org_core.specs.AccessConditions.{has_listed, has_shelved, AccessConditions}
 use Rattle.org_core.specs.Moves.{with_objects, with_lists}
 use Rattle.org_core.specs.ObjectConditions.{has}
 use Rattle.org_core.specs.States.{Organisation}
@@ -113,27 +112,27 @@ has_own_list kinds.Acl = false
 has_own_list kinds.Sandbox = false
 has_own_list kinds.File = false
 
--- where two organisations have the same objects, groups and cookbooks of a name, the same is listed
+-- where two organisations have the same objects, groups and things on shelves of a name, the same is listed
 pub same_listed : (o p : Organisation) (kind : Kind) (name : List ℕ) → (has_own_list kind ≡ true → has p.objects kind name ≡ has o.objects kind name)
-    → (kind ≡ kinds.Group → membership.has p.membership member.Group name ≡ membership.has o.membership member.Group name) → (kind ≡ kinds.Cookbook → has_shelf p.cookbooks name ≡ has_shelf o.cookbooks name)
+    → (kind ≡ kinds.Group → membership.has p.membership member.Group name ≡ membership.has o.membership member.Group name) → has_shelved p.shelved kind name ≡ has_shelved o.shelved kind name
     → has_listed p kind name ≡ has_listed o kind name
-same_listed o p kinds.Org name objects groups cookbooks = refl
-same_listed o p kinds.Node name objects groups cookbooks = objects refl
-same_listed o p kinds.Role name objects groups cookbooks = objects refl
-same_listed o p kinds.Environment name objects groups cookbooks = objects refl
-same_listed o p kinds.Bag name objects groups cookbooks = objects refl
-same_listed o p kinds.Client name objects groups cookbooks = objects refl
-same_listed o p kinds.User name objects groups cookbooks = refl
-same_listed o p kinds.Group name objects groups cookbooks = groups refl
-same_listed o p kinds.Container name objects groups cookbooks = refl
-same_listed o p kinds.Item name objects groups cookbooks = refl
-same_listed o p kinds.Cookbook name objects groups cookbooks = cookbooks refl
-same_listed o p kinds.Artifact name objects groups cookbooks = refl
-same_listed o p kinds.Policy name objects groups cookbooks = refl
-same_listed o p kinds.PolicyGroup name objects groups cookbooks = refl
-same_listed o p kinds.Acl name objects groups cookbooks = refl
-same_listed o p kinds.Sandbox name objects groups cookbooks = refl
-same_listed o p kinds.File name objects groups cookbooks = refl
+same_listed o p kinds.Org name objects groups shelved = refl
+same_listed o p kinds.Node name objects groups shelved = objects refl
+same_listed o p kinds.Role name objects groups shelved = objects refl
+same_listed o p kinds.Environment name objects groups shelved = objects refl
+same_listed o p kinds.Bag name objects groups shelved = objects refl
+same_listed o p kinds.Client name objects groups shelved = objects refl
+same_listed o p kinds.User name objects groups shelved = refl
+same_listed o p kinds.Group name objects groups shelved = groups refl
+same_listed o p kinds.Container name objects groups shelved = refl
+same_listed o p kinds.Item name objects groups shelved = refl
+same_listed o p kinds.Cookbook name objects groups shelved = shelved
+same_listed o p kinds.Artifact name objects groups shelved = shelved
+same_listed o p kinds.Policy name objects groups shelved = shelved
+same_listed o p kinds.PolicyGroup name objects groups shelved = shelved
+same_listed o p kinds.Acl name objects groups shelved = refl
+same_listed o p kinds.Sandbox name objects groups shelved = refl
+same_listed o p kinds.File name objects groups shelved = refl
 
 -- an object that has a list of its own is listed where it is there
 own_listed : (o : Organisation) (kind : Kind) (name : List ℕ) → has_own_list kind ≡ true → has_listed o kind name ≡ has o.objects kind name
@@ -195,7 +194,7 @@ put_listed o k object list q false meets own other =
     meets.listed q
     ∙ sym (same_listed o after q.kind q.name
     (λ has_list. ap is_some (put-at o.objects k object q) ∙ ap (λ b. is_some (cond b (Some object) (finite.get o.objects q))) other)
-    (λ group. refl) (λ cookbook. refl))
+    (λ group. refl) refl)
 
 -- an object comes with its list
 pub put_with_list : (o : Organisation) (k : Key) (object : Doc) (list : Acl) → AccessConditions o → has_own_list k.kind ≡ true → NamesKnown o.membership list
@@ -227,7 +226,7 @@ left_listed o k q false meets own other =
     meets.listed q
     ∙ sym (same_listed o after q.kind q.name
     (λ has_list. ap is_some (left-at o.objects k q) ∙ ap (λ b. is_some (cond b None (finite.get o.objects q))) other)
-    (λ group. refl) (λ cookbook. refl))
+    (λ group. refl) refl)
 
 -- an object goes with its list
 pub take_with_list : (o : Organisation) (k : Key) → AccessConditions o → has_own_list k.kind ≡ true
@@ -246,7 +245,7 @@ take_with_list o k meets own = record {
 pub objects_alone : (o : Organisation) (objects : Objects) → AccessConditions o → ((k : Key) → has_own_list k.kind ≡ true → is_some (finite.get objects k) ≡ is_some (finite.get o.objects k))
     → AccessConditions (with_objects objects o)
 objects_alone o objects meets same = record {
-  listed = λ q. meets.listed q ∙ sym (same_listed o (with_objects objects o) q.kind q.name (λ own. same q own) (λ group. refl) (λ cookbook. refl));
+  listed = λ q. meets.listed q ∙ sym (same_listed o (with_objects objects o) q.kind q.name (λ own. same q own) (λ group. refl) refl);
   actors = meets.actors;
   groups = meets.groups;
   members = meets.members;

@@ -31,6 +31,7 @@ use Rattle.org_core.proofs.MembershipLemmas.{either, itself, same_name, get-put,
 use Rattle.org_core.proofs.ObjectConditionsLemmas.{same_keys, ties_itself}
 use Rattle.org_core.specs.AccessConditions.{has_listed, has_member, AccessConditions, HasItsClients}
 use Rattle.org_core.specs.ObjectConditions.{has}
+use Rattle.org_shelves.specs.Shelved.{nothing}
 use Rattle.org_core.specs.States.{Organisation}
 
 -- ---- the lists of the table name the starting groups alone
@@ -198,7 +199,7 @@ started default = record {
   objects = finite.insert finite.empty (key kinds.Environment (codes "_default")) default;
   lists = put_lists rows finite.empty;
   membership = record { users = set.empty; clients = set.empty; groups = put_groups starting_groups finite.empty };
-  cookbooks = finite.empty;
+  shelved = nothing;
 }
 
 or_nothing : (b : Bool) → (b || false) ≡ b
@@ -267,9 +268,9 @@ rows_listed default kinds.Group name = groups_named starting_groups name ∙ sym
 rows_listed default kinds.Container name = containers_named containers name
 rows_listed default kinds.Item name = refl
 rows_listed default kinds.Cookbook name = ap is_some (sym (finite.get-empty shelf_cmp name))
-rows_listed default kinds.Artifact name = refl
-rows_listed default kinds.Policy name = refl
-rows_listed default kinds.PolicyGroup name = refl
+rows_listed default kinds.Artifact name = ap is_some (sym (finite.get-empty shelf_cmp name))
+rows_listed default kinds.Policy name = ap is_some (sym (finite.get-empty shelf_cmp name))
+rows_listed default kinds.PolicyGroup name = ap is_some (sym (finite.get-empty shelf_cmp name))
 rows_listed default kinds.Acl name = refl
 rows_listed default kinds.Sandbox name = refl
 rows_listed default kinds.File name = refl

@@ -17,8 +17,29 @@ use Rattle.doc_tree.specs.declared.kind.Kind.{Kind}
 use Rattle.doc_tree.specs.declared.kind.Kind.TheVariants.{Org, Node, Role, Environment, Bag, Client, User, Group, Container, Item, Cookbook, Artifact, Policy, PolicyGroup, Acl as AnAcl, Sandbox, File}
 use Rattle.object_store.specs.declared.key.Key.{Key}
 use Rattle.shelves.specs.Shelves.{has_shelf}
+use Rattle.org_shelves.specs.Shelved.{Shelved}
 use Rattle.org_core.specs.ObjectConditions.{has}
 use Rattle.org_core.specs.States.{Organisation}
+
+-- of a kind that is kept on shelves, one of this name is there
+abbrev pub has_shelved : Shelved → Kind → List ℕ → Bool
+has_shelved s Org name = false
+has_shelved s Node name = false
+has_shelved s Role name = false
+has_shelved s Environment name = false
+has_shelved s Bag name = false
+has_shelved s Client name = false
+has_shelved s User name = false
+has_shelved s Group name = false
+has_shelved s Container name = false
+has_shelved s Item name = false
+has_shelved s Cookbook name = has_shelf s.cookbooks name
+has_shelved s Artifact name = has_shelf s.artifacts name
+has_shelved s Policy name = has_shelf s.policies name
+has_shelved s PolicyGroup name = is_some (map.get s.groups name)
+has_shelved s AnAcl name = false
+has_shelved s Sandbox name = false
+has_shelved s File name = false
 
 -- of a kind whose objects have access lists, one of this name is there
 abbrev pub has_listed : Organisation → Kind → List ℕ → Bool
@@ -32,10 +53,10 @@ has_listed o User name = false
 has_listed o Group name = membership.has o.membership member.Group name
 has_listed o Container name = is_some (container_named name)
 has_listed o Item name = false
-has_listed o Cookbook name = has_shelf o.cookbooks name
-has_listed o Artifact name = false
-has_listed o Policy name = false
-has_listed o PolicyGroup name = false
+has_listed o Cookbook name = has_shelved o.shelved Cookbook name
+has_listed o Artifact name = has_shelved o.shelved Artifact name
+has_listed o Policy name = has_shelved o.shelved Policy name
+has_listed o PolicyGroup name = has_shelved o.shelved PolicyGroup name
 has_listed o AnAcl name = false
 has_listed o Sandbox name = false
 has_listed o File name = false

@@ -7,8 +7,8 @@ use Rattle.sandboxes.specs.Sums.{Sums}
 use Rattle.org_core.specs.declared.file_moves.FileMove.{FileMove}
 use Rattle.org_core.specs.declared.file_moves.FileMove.TheVariants.{Begin, Upload, Commit}
 use Rattle.org_core.specs.declared.moves.Move.{Move}
-use Rattle.org_core.specs.declared.moves.Move.TheVariants.{Open, Put, TakeOut, PutList, TakeList, AddUser, RemoveUser, AddClient, RemoveClient, PutGroup, RemoveGroup, OnCookbooks, OnFiles}
-use Rattle.org_core.specs.CookbookMoves.{files_after_cookbook_move, puts_version}
+use Rattle.org_core.specs.declared.moves.Move.TheVariants.{Open, Put, TakeOut, PutList, TakeList, AddUser, RemoveUser, AddClient, RemoveClient, PutGroup, RemoveGroup, OnShelves, OnFiles}
+use Rattle.org_shelves.specs.ShelfMoves.{files_after_shelf_move, puts_on_shelves}
 use Rattle.org_core.specs.FullStates.{FullState}
 use Rattle.org_core.specs.Moves.{after_move, after_moves}
 use Rattle.org_core.specs.States.{State, Organisation}
@@ -40,7 +40,7 @@ files_within org (AddClient comer) o files = files
 files_within org (RemoveClient name) o files = files
 files_within org (PutGroup name members) o files = files
 files_within org (RemoveGroup name) o files = files
-files_within org (OnCookbooks move) o files = files_after_cookbook_move move o.cookbooks files
+files_within org (OnShelves move) o files = files_after_shelf_move move o.shelved files
 files_within org (OnFiles move) o files = after_file_move org move files
 
 -- the files of any organisation after a move: one that isn't there has none to change
@@ -76,14 +76,14 @@ takes_file_room (AddClient comer) = false
 takes_file_room (RemoveClient name) = false
 takes_file_room (PutGroup name members) = false
 takes_file_room (RemoveGroup name) = false
-takes_file_room (OnCookbooks move) = false
+takes_file_room (OnShelves move) = false
 takes_file_room (OnFiles move) = puts_in_files move
 
 -- how many of the moves do
 abbrev pub files_put_in : List Move → ℕ
 files_put_in moves = length (filter takes_file_room moves)
 
--- the move puts a cookbook version in
+-- the move puts something on a shelf
 unfoldable pub takes_shelf_room : Move → Bool
 takes_shelf_room Open = false
 takes_shelf_room (Put key object) = false
@@ -96,9 +96,9 @@ takes_shelf_room (AddClient comer) = false
 takes_shelf_room (RemoveClient name) = false
 takes_shelf_room (PutGroup name members) = false
 takes_shelf_room (RemoveGroup name) = false
-takes_shelf_room (OnCookbooks move) = puts_version move
+takes_shelf_room (OnShelves move) = puts_on_shelves move
 takes_shelf_room (OnFiles move) = false
 
 -- how many of the moves do
-abbrev pub versions_put_in : List Move → ℕ
-versions_put_in moves = length (filter takes_shelf_room moves)
+abbrev pub shelved_by : List Move → ℕ
+shelved_by moves = length (filter takes_shelf_room moves)

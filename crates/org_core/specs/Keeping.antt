@@ -3,7 +3,7 @@ use Rattle.std.specs.Prelude.{◌≡◌, true, false, None, Ok}
 use Rattle.org_core.specs.declared.requests.Request.{Request}
 use Rattle.org_core.specs.Conditions.{MeetsConditions}
 use Rattle.org_core.specs.Contexts.{Context}
-use Rattle.org_core.specs.FileMoves.{after_all, versions_put_in}
+use Rattle.org_core.specs.FileMoves.{after_all, shelved_by}
 use Rattle.org_core.specs.FullStates.{FullState, MeetsFileConditions}
 use Rattle.org_core.specs.Moves.{IsOrderly, after_moves}
 use Rattle.org_core.specs.Needs.{is_known}
@@ -54,10 +54,10 @@ KeepsFileConditions {Route} {Operation} rules =
     (context : Context) (route : Route) (request : Request) (operation : Operation) → MeetsFileConditions (full_of context)
     → rules.operation context route request ≡ Ok operation → rules.own_refusal context operation ≡ None → LeadsToFileConditions context (rules.does context operation)
 
--- what was decided puts no cookbook version in
-abbrev pub PutsNoVersion : Decided → Type 0
-PutsNoVersion decided = versions_put_in (outcome_of decided.answer).moves ≡ 0
+-- what was decided puts nothing on a shelf
+abbrev pub ShelvesNothing : Decided → Type 0
+ShelvesNothing decided = shelved_by (outcome_of decided.answer).moves ≡ 0
 
--- whatever a group does puts none in
-abbrev pub PutsNoVersions : {Route Operation : Type 0} → Rules Route Operation → Type 0
-PutsNoVersions {Route} {Operation} rules = (context : Context) (operation : Operation) → PutsNoVersion (rules.does context operation)
+-- whatever a group does puts nothing there
+abbrev pub NeverShelves : {Route Operation : Type 0} → Rules Route Operation → Type 0
+NeverShelves {Route} {Operation} rules = (context : Context) (operation : Operation) → ShelvesNothing (rules.does context operation)

@@ -7,7 +7,6 @@ pub mod Comers
 pub mod Stored
 pub mod Named
 pub mod FullStates
-pub mod CookbookMoves
 pub mod Moves
 pub mod FileMoves
 pub mod Rooms
@@ -20,7 +19,6 @@ pub mod Creating
 pub mod Rules
 pub mod ObjectConditions
 pub mod AccessConditions
-pub mod CookbookConditions
 pub mod Conditions
 pub mod Keeping
 pub mod Plain

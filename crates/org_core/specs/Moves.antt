@@ -11,25 +11,26 @@ use Rattle.access_lists.specs.Rooms as groups
 use Rattle.access_lists.specs.Strangers as membership
 use Rattle.object_store.specs.Objects.{Objects, Lists}
 use Rattle.org_core.specs.declared.moves.Move.{Move}
-use Rattle.org_core.specs.declared.moves.Move.TheVariants.{Open, Put, TakeOut, PutList, TakeList, AddUser, RemoveUser, AddClient, RemoveClient, PutGroup, RemoveGroup, OnCookbooks, OnFiles}
-use Rattle.org_core.specs.CookbookMoves.{after_cookbook_move}
-use Rattle.org_core.specs.States.{State, Organisation, Cookbooks, nothing}
+use Rattle.org_core.specs.declared.moves.Move.TheVariants.{Open, Put, TakeOut, PutList, TakeList, AddUser, RemoveUser, AddClient, RemoveClient, PutGroup, RemoveGroup, OnShelves, OnFiles}
+use Rattle.org_shelves.specs.Shelved.{Shelved}
+use Rattle.org_shelves.specs.ShelfMoves.{after_shelf_move}
+use Rattle.org_core.specs.States.{State, Organisation, nothing}
 
 -- an organisation with other objects
 abbrev pub with_objects : Objects → Organisation → Organisation
-with_objects objects o = record { objects = objects; lists = o.lists; membership = o.membership; cookbooks = o.cookbooks }
+with_objects objects o = record { objects = objects; lists = o.lists; membership = o.membership; shelved = o.shelved }
 
 -- with other lists
 abbrev pub with_lists : Lists → Organisation → Organisation
-with_lists lists o = record { objects = o.objects; lists = lists; membership = o.membership; cookbooks = o.cookbooks }
+with_lists lists o = record { objects = o.objects; lists = lists; membership = o.membership; shelved = o.shelved }
 
 -- with other users, clients and groups
 abbrev pub with_membership : Membership → Organisation → Organisation
-with_membership m o = record { objects = o.objects; lists = o.lists; membership = m; cookbooks = o.cookbooks }
+with_membership m o = record { objects = o.objects; lists = o.lists; membership = m; shelved = o.shelved }
 
--- with other cookbook versions
-abbrev pub with_cookbooks : Cookbooks → Organisation → Organisation
-with_cookbooks cookbooks o = record { objects = o.objects; lists = o.lists; membership = o.membership; cookbooks = cookbooks }
+-- with other things on its shelves
+abbrev pub with_shelved : Shelved → Organisation → Organisation
+with_shelved shelved o = record { objects = o.objects; lists = o.lists; membership = o.membership; shelved = shelved }
 
 -- a member joins a group
 abbrev pub joins : List ℕ → MemberKind → List ℕ → Membership → Membership
@@ -61,7 +62,7 @@ within (RemoveClient name) o = with_membership (leaves kind.Client name (without
 within (PutGroup name members) o = with_membership (with_groups (map.insert o.membership.groups name members) o.membership) o
 within (RemoveGroup name) o =
     with_membership (leaves kind.Group name (with_groups (map.remove o.membership.groups name) o.membership)) (with_lists (lists_without_group name o.lists) o)
-within (OnCookbooks move) o = with_cookbooks (after_cookbook_move move o.cookbooks) o
+within (OnShelves move) o = with_shelved (after_shelf_move move o.shelved) o
 within (OnFiles move) o = o
 
 -- the move makes an organisation of none
@@ -77,7 +78,7 @@ opens (AddClient comer) = false
 opens (RemoveClient name) = false
 opens (PutGroup name members) = false
 opens (RemoveGroup name) = false
-opens (OnCookbooks move) = false
+opens (OnShelves move) = false
 opens (OnFiles move) = false
 
 -- what a move makes of no organisation: only `Open` makes one
@@ -108,7 +109,7 @@ takes_room (AddClient comer) = true
 takes_room (RemoveClient name) = false
 takes_room (PutGroup name members) = true
 takes_room (RemoveGroup name) = false
-takes_room (OnCookbooks move) = false
+takes_room (OnShelves move) = false
 takes_room (OnFiles move) = false
 
 -- how many of the moves take room
@@ -128,7 +129,7 @@ group_joined (AddClient comer) = Some comer.group
 group_joined (RemoveClient name) = None
 group_joined (PutGroup name members) = None
 group_joined (RemoveGroup name) = None
-group_joined (OnCookbooks move) = None
+group_joined (OnShelves move) = None
 group_joined (OnFiles move) = None
 
 -- how many users and clients come

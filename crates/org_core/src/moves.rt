@@ -5,13 +5,13 @@ ghost use Rattle.org_core.specs.FileMoves as files;
 ghost use Rattle.org_core.specs.Moves as spec;
 
 use crate::comers::Comer;
-use crate::cookbook_moves::CookbookMove;
 use crate::file_moves::FileMove;
 use crate::group_members::GroupMembers;
 use crate::stored::Stored;
 use access_lists::Acl;
 use doc_tree::{Listed, NoMemory, Text};
 use object_store::Key;
+use org_shelves::ShelfMove;
 use std::alloc::Global;
 
 /// One change of an organisation's state, with all the memory that it needs but for the place of what is
@@ -40,8 +40,8 @@ pub enum Move {
     PutGroup(Text, GroupMembers),
     /// A group goes, out of every other group and every access list too.
     RemoveGroup(Text),
-    /// The cookbook versions of an organisation that is there change, and with them its files.
-    OnCookbooks(CookbookMove),
+    /// What an organisation that is there keeps on shelves changes, and with it its files.
+    OnShelves(ShelfMove),
     /// The files and sandboxes of an organisation that is there change.
     OnFiles(FileMove),
 }
@@ -67,7 +67,7 @@ impl Move {
             | Move::RemoveUser(_)
             | Move::RemoveClient(_)
             | Move::RemoveGroup(_)
-            | Move::OnCookbooks(_)
+            | Move::OnShelves(_)
             | Move::OnFiles(_) => false,
         }
     }
@@ -88,7 +88,7 @@ impl Move {
             | Move::RemoveClient(_)
             | Move::PutGroup(_, _)
             | Move::RemoveGroup(_)
-            | Move::OnCookbooks(_)
+            | Move::OnShelves(_)
             | Move::OnFiles(_) => false,
         }
     }
@@ -111,17 +111,17 @@ impl Move {
             | Move::RemoveClient(_)
             | Move::PutGroup(_, _)
             | Move::RemoveGroup(_)
-            | Move::OnCookbooks(_) => false,
+            | Move::OnShelves(_) => false,
         }
     }
 
-    /// Whether it puts a cookbook version in, which takes room among them.
+    /// Whether it puts something on a shelf, which takes room there.
     #[tactic(auto, unfolding(crate::specs::FileMoves::takes_shelf_room))]
     pub(crate) fn takes_shelf_room(&self) -> bool
         ensures { result ≡ files.takes_shelf_room self.now }
     {
         match self {
-            Move::OnCookbooks(one) => one.puts_version(),
+            Move::OnShelves(one) => one.puts_on_shelves(),
             Move::Open
             | Move::Put(_, _)
             | Move::TakeOut(_)
@@ -152,7 +152,7 @@ impl Move {
             | Move::RemoveClient(_)
             | Move::PutGroup(_, _)
             | Move::RemoveGroup(_)
-            | Move::OnCookbooks(_)
+            | Move::OnShelves(_)
             | Move::OnFiles(_) => None,
         }
     }
@@ -184,9 +184,9 @@ pub(crate) fn files_put_in(moves: &[Move]) -> usize
     count
 }
 
-/// How many of the moves put a cookbook version in.
-pub(crate) fn versions_put_in(moves: &[Move]) -> usize
-    ensures { result ≡ files.versions_put_in moves.now }
+/// How many of the moves put something on a shelf.
+pub(crate) fn shelved_by(moves: &[Move]) -> usize
+    ensures { result ≡ files.shelved_by moves.now }
 {
     let mut count = 0;
     for one in moves {

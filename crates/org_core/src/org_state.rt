@@ -9,19 +9,21 @@ ghost use Rattle.doc_tree.specs.declared.kind.Kind.TheVariants as kinds;
 ghost use Rattle.org_core.specs.Conditions.{MeetsConditions};
 ghost use Rattle.std.specs.FinMap as finite;
 ghost use Rattle.access_lists.specs.Changes.{with_client, with_groups, with_user, without_client, without_user};
-ghost use Rattle.org_core.specs.States.{state_in, state_from, cookbooks_in, cookbooks_of, objects_of, object_in, has_object, list_in, membership_of, room_for, IsNobody};
-ghost use Rattle.org_core.specs.FileMoves.{files_after, files_after_move, files_put_in as spec_files_put_in, takes_file_room, takes_shelf_room, versions_put_in as spec_versions_put_in};
+ghost use Rattle.org_core.specs.States.{state_in, state_from, cookbooks_of, shelved_of, objects_of, object_in, has_object, list_in, membership_of, room_for, IsNobody};
+ghost use Rattle.org_core.specs.FileMoves.{files_after, files_after_move, files_put_in as spec_files_put_in, takes_file_room, takes_shelf_room, shelved_by as spec_shelved_by};
 ghost use Rattle.org_core.specs.Rooms.{HasRoom};
+ghost use Rattle.shelves.specs.Shelves.{shelves_of};
+ghost use Rattle.version_rules.specs.Order.{version_cmp};
 ghost use Rattle.sandboxes.specs.Files.{holding_of, spare_of, OthersStay};
 ghost use Rattle.org_core.specs.Moves.{HasPlace, HasPlaceFirst, IsOrderly, after_move, after_moves, group_joined, joins, leaves, lists_without_actor, lists_without_group, takes_room};
 
 use crate::comers::Comer;
-use crate::cookbook_moves::{Cookbooks, make_on_cookbooks};
 use crate::file_moves::make_on_files;
-use crate::moves::{Move, Moves, files_put_in, puts_in, versions_put_in};
+use crate::moves::{Move, Moves, files_put_in, puts_in, shelved_by};
 use access_lists::{Acl, Groups, MemberKind};
 use doc_tree::{Kind, NoMemory, Steps, Text, Texts, Tree};
 use object_store::{Key, Objects};
+use org_shelves::{Cookbooks, OrgShelves, make_on_shelves};
 use sandboxes::Files;
 use std::alloc::Global;
 use std::hash::RandomState;
@@ -37,7 +39,7 @@ pub struct OrgState {
     there: bool,
     objects: Objects,
     groups: Groups,
-    cookbooks: Cookbooks,
+    shelves: OrgShelves,
     hasher: RandomState,
 }
 
@@ -50,10 +52,10 @@ impl Model for OrgState {
 
     ghost coded = { kept_code };
 
-    ghost view = { λ s. record { name = s.org; there = s.there; objects = s.objects; groups = s.groups; cookbooks = s.cookbooks } };
+    ghost view = { λ s. record { name = s.org; there = s.there; objects = s.objects; groups = s.groups; shelves = s.shelves } };
 
     // One that isn't there holds nothing, and the state of one that is meets the conditions.
-    ghost invariant = { λ s. IsNobody s.there s.objects s.groups s.cookbooks × MeetsConditions (states.state_from s.there s.objects s.groups s.cookbooks) };
+    ghost invariant = { λ s. IsNobody s.there s.objects s.groups s.shelves × MeetsConditions (states.state_from s.there s.objects s.groups s.shelves) };
 }
 
 impl OrgState {
@@ -67,7 +69,7 @@ impl OrgState {
             there: false,
             objects: Objects::none(alloc, hasher),
             groups: Groups::none(alloc, hasher),
-            cookbooks: Cookbooks::none(alloc),
+            shelves: OrgShelves::none(alloc),
             hasher,
         }
     }
@@ -103,7 +105,7 @@ impl OrgState {
             there: self.there,
             objects: self.objects.copy(alloc)?,
             groups: self.groups.copy(alloc)?,
-            cookbooks: self.cookbooks.copy(alloc)?,
+            shelves: self.shelves.copy(alloc)?,
             hasher: self.hasher,
         })
     }
@@ -122,11 +124,18 @@ impl OrgState {
         &self.groups
     }
 
+    /// What the organisation keeps on shelves: one that isn't there keeps nothing.
+    pub fn shelves(&self) -> &OrgShelves
+        ensures { result.now.shelved ≡ shelved_of (state_in self.now) }
+    {
+        &self.shelves
+    }
+
     /// The cookbook versions of the organisation, of which one that isn't there has none.
     pub fn cookbooks(&self) -> &Cookbooks
-        ensures { cookbooks_in result.now ≡ cookbooks_of (state_in self.now) }
+        ensures { shelves_of version_cmp result.now ≡ cookbooks_of (state_in self.now) }
     {
-        &self.cookbooks
+        self.shelves().cookbooks()
     }
 
     /// What names are hashed with, for a group that is to be put in.
@@ -199,20 +208,20 @@ impl OrgState {
         ensures state { state_in self.new ≡ state_in self.old }
         ensures files { holding_of files.new self.old.name ≡ holding_of files.old self.old.name }
         ensures others { OthersStay self.old.name files.old files.new }
-        ensures room { OnOk result (HasRoom moves.now self.new.objects self.new.groups self.new.cookbooks (spare_of files.new self.new.name)) }
+        ensures room { OnOk result (HasRoom moves.now self.new.objects self.new.groups self.new.shelves (spare_of files.new self.new.name)) }
     {
         let count = puts_in(moves.as_slice());
         self.objects.reserve(count)?;
         self.groups.reserve(count)?;
         make_place_first(&mut self.groups, moves.as_slice())?;
-        self.cookbooks.reserve(versions_put_in(moves.as_slice()))?;
+        self.shelves.reserve(shelved_by(moves.as_slice()))?;
         reserve_files(alloc, files, &self.org, files_put_in(moves.as_slice()))
     }
 
     /// Makes moves for which there is room, in order. They lead to a state that meets the conditions.
     /// The files of other organisations stay as they are. It takes no memory.
     pub fn make_all(&mut self, files: &mut Files, moves: Moves)
-        requires room { HasRoom moves self.old.objects self.old.groups self.old.cookbooks (spare_of files.old self.old.name) }
+        requires room { HasRoom moves self.old.objects self.old.groups self.old.shelves (spare_of files.old self.old.name) }
         requires conditions { MeetsConditions (after_moves moves (state_in self.old)) }
         ensures name { self.new.name ≡ self.old.name }
         ensures state { state_in self.new ≡ after_moves moves (state_in self.old) }
@@ -224,7 +233,7 @@ impl OrgState {
             &mut self.there,
             &mut self.objects,
             &mut self.groups,
-            &mut self.cookbooks,
+            &mut self.shelves,
             files,
             moves,
         );
@@ -272,19 +281,19 @@ pub(crate) fn make_all(
     there: &mut bool,
     objects: &mut Objects,
     groups: &mut Groups,
-    cookbooks: &mut Cookbooks,
+    shelves: &mut OrgShelves,
     files: &mut Files,
     moves: Moves,
 )
-    requires room { HasRoom moves objects.old groups.old cookbooks.old (spare_of files.old org.now) }
-    requires nobody { IsNobody there.old objects.old groups.old cookbooks.old }
-    ensures state { state_from there.new objects.new groups.new cookbooks.new ≡ after_moves moves (state_from there.old objects.old groups.old cookbooks.old) }
-    ensures nobody { IsNobody there.new objects.new groups.new cookbooks.new }
-    ensures files { holding_of files.new org.now ≡ files_after org.now moves (state_from there.old objects.old groups.old cookbooks.old) (holding_of files.old org.now) }
+    requires room { HasRoom moves objects.old groups.old shelves.old (spare_of files.old org.now) }
+    requires nobody { IsNobody there.old objects.old groups.old shelves.old }
+    ensures state { state_from there.new objects.new groups.new shelves.new ≡ after_moves moves (state_from there.old objects.old groups.old shelves.old) }
+    ensures nobody { IsNobody there.new objects.new groups.new shelves.new }
+    ensures files { holding_of files.new org.now ≡ files_after org.now moves (state_from there.old objects.old groups.old shelves.old) (holding_of files.old org.now) }
     ensures others { OthersStay org.now files.old files.new }
 {
     for one in moves.into_vec() {
-        make(org, there, objects, groups, cookbooks, files, one);
+        make(org, there, objects, groups, shelves, files, one);
     }
 }
 
@@ -294,25 +303,25 @@ fn make(
     there: &mut bool,
     objects: &mut Objects,
     groups: &mut Groups,
-    cookbooks: &mut Cookbooks,
+    shelves: &mut OrgShelves,
     files: &mut Files,
     one: Move,
 )
     requires room { cond (takes_room one) 1 0 ≤ room_for objects.old groups.old }
     requires place { HasPlace (group_joined one) groups.old }
-    requires nobody { IsNobody there.old objects.old groups.old cookbooks.old }
-    requires shelf { cond (takes_shelf_room one) 1 0 ≤ cookbooks.old.spare }
+    requires nobody { IsNobody there.old objects.old groups.old shelves.old }
+    requires shelf { cond (takes_shelf_room one) 1 0 ≤ shelves.old.spare }
     requires spare { cond (takes_file_room one) 1 0 ≤ spare_of files.old org.now }
-    ensures state { state_from there.new objects.new groups.new cookbooks.new ≡ after_move one (state_from there.old objects.old groups.old cookbooks.old) }
+    ensures state { state_from there.new objects.new groups.new shelves.new ≡ after_move one (state_from there.old objects.old groups.old shelves.old) }
     ensures room { room_for objects.old groups.old ≤ room_for objects.new groups.new + cond (takes_room one) 1 0 }
-    ensures nobody { IsNobody there.new objects.new groups.new cookbooks.new }
-    ensures files { holding_of files.new org.now ≡ files_after_move org.now one (state_from there.old objects.old groups.old cookbooks.old) (holding_of files.old org.now) }
-    ensures shelf { cookbooks.old.spare ≤ cookbooks.new.spare + cond (takes_shelf_room one) 1 0 }
+    ensures nobody { IsNobody there.new objects.new groups.new shelves.new }
+    ensures files { holding_of files.new org.now ≡ files_after_move org.now one (state_from there.old objects.old groups.old shelves.old) (holding_of files.old org.now) }
+    ensures shelf { shelves.old.spare ≤ shelves.new.spare + cond (takes_shelf_room one) 1 0 }
     ensures spare { spare_of files.old org.now ≤ spare_of files.new org.now + cond (takes_file_room one) 1 0 }
     ensures others { OthersStay org.now files.old files.new }
 {
     if *there {
-        make_there(org, objects, groups, cookbooks, files, one);
+        make_there(org, objects, groups, shelves, files, one);
     } else {
         *there = one.opens();
     }
@@ -324,18 +333,18 @@ fn make_there(
     org: &Text,
     objects: &mut Objects,
     groups: &mut Groups,
-    cookbooks: &mut Cookbooks,
+    shelves: &mut OrgShelves,
     files: &mut Files,
     one: Move,
 )
     requires room { cond (takes_room one) 1 0 ≤ room_for objects.old groups.old }
     requires place { HasPlace (group_joined one) groups.old }
-    requires shelf { cond (takes_shelf_room one) 1 0 ≤ cookbooks.old.spare }
+    requires shelf { cond (takes_shelf_room one) 1 0 ≤ shelves.old.spare }
     requires spare { cond (takes_file_room one) 1 0 ≤ spare_of files.old org.now }
-    ensures state { state_from true objects.new groups.new cookbooks.new ≡ after_move one (state_from true objects.old groups.old cookbooks.old) }
+    ensures state { state_from true objects.new groups.new shelves.new ≡ after_move one (state_from true objects.old groups.old shelves.old) }
     ensures room { room_for objects.old groups.old ≤ room_for objects.new groups.new + cond (takes_room one) 1 0 }
-    ensures files { holding_of files.new org.now ≡ files_after_move org.now one (state_from true objects.old groups.old cookbooks.old) (holding_of files.old org.now) }
-    ensures shelf { cookbooks.old.spare ≤ cookbooks.new.spare + cond (takes_shelf_room one) 1 0 }
+    ensures files { holding_of files.new org.now ≡ files_after_move org.now one (state_from true objects.old groups.old shelves.old) (holding_of files.old org.now) }
+    ensures shelf { shelves.old.spare ≤ shelves.new.spare + cond (takes_shelf_room one) 1 0 }
     ensures spare { spare_of files.old org.now ≤ spare_of files.new org.now + cond (takes_file_room one) 1 0 }
     ensures others { OthersStay org.now files.old files.new }
 {
@@ -351,7 +360,7 @@ fn make_there(
         Move::RemoveClient(name) => remove_client(objects, groups, &name),
         Move::PutGroup(name, members) => groups.put_group(name, members.into_group()),
         Move::RemoveGroup(name) => remove_group(objects, groups, &name),
-        Move::OnCookbooks(one) => make_on_cookbooks(cookbooks, files, org, one),
+        Move::OnShelves(one) => make_on_shelves(shelves, files, org, one),
         Move::OnFiles(one) => make_on_files(files, org, one),
     }
 }

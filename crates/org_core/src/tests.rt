@@ -5,9 +5,8 @@ ghost use Rattle.org_core.specs.States.{state_in, IsNobody};
 
 use crate::bodies::document_in;
 use crate::comers::Comer;
-use crate::cookbook_moves::Cookbooks;
 use crate::group_members::GroupMembers;
-use crate::moves::{Move, Moves, files_put_in, puts_in, versions_put_in};
+use crate::moves::{Move, Moves, files_put_in, puts_in, shelved_by};
 use crate::org_state::{OrgState, make_all, make_place_first};
 use crate::refusals::{Refusal, out_of_memory};
 use crate::replies::Reply;
@@ -16,6 +15,7 @@ use crate::stored::Stored;
 use access_lists::{Group as AGroup, Groups, MemberKind, Perm};
 use doc_tree::{Kind, NoMemory, Text, Tree};
 use object_store::{Key, Objects};
+use org_shelves::OrgShelves;
 use sandboxes::Files;
 use std::alloc::Global;
 use std::hash::RandomState;
@@ -164,11 +164,11 @@ fn make_one(
     there: &mut bool,
     objects: &mut Objects,
     groups: &mut Groups,
-    cookbooks: &mut Cookbooks,
+    shelves: &mut OrgShelves,
     one: Move,
 ) -> Result<(), NoMemory>
-    requires { IsNobody there.old objects.old groups.old cookbooks.old }
-    ensures { IsNobody there.new objects.new groups.new cookbooks.new }
+    requires { IsNobody there.old objects.old groups.old shelves.old }
+    ensures { IsNobody there.new objects.new groups.new shelves.new }
 {
     let mut moves = Moves::new(alloc);
     moves.push(one)?;
@@ -178,8 +178,8 @@ fn make_one(
     objects.reserve(puts_in(moves.as_slice()))?;
     groups.reserve(puts_in(moves.as_slice()))?;
     make_place_first(groups, moves.as_slice())?;
-    cookbooks.reserve(versions_put_in(moves.as_slice()))?;
-    make_all(&acme, there, objects, groups, cookbooks, &mut files, moves);
+    shelves.reserve(shelved_by(moves.as_slice()))?;
+    make_all(&acme, there, objects, groups, shelves, &mut files, moves);
     Ok(())
 }
 
@@ -209,14 +209,14 @@ fn step(
     there: &mut bool,
     objects: &mut Objects,
     groups: &mut Groups,
-    cookbooks: &mut Cookbooks,
+    shelves: &mut OrgShelves,
     text: &mut String,
     one: Move,
 ) -> Result<(), NoMemory>
-    requires { IsNobody there.old objects.old groups.old cookbooks.old }
-    ensures { IsNobody there.new objects.new groups.new cookbooks.new }
+    requires { IsNobody there.old objects.old groups.old shelves.old }
+    ensures { IsNobody there.new objects.new groups.new shelves.new }
 {
-    make_one(alloc, there, objects, groups, cookbooks, one)?;
+    make_one(alloc, there, objects, groups, shelves, one)?;
     add_parts(alloc, text, *there, objects, groups)
 }
 
@@ -225,10 +225,10 @@ fn live(
     hasher: RandomState,
     objects: &mut Objects,
     groups: &mut Groups,
-    cookbooks: &mut Cookbooks,
+    shelves: &mut OrgShelves,
     text: &mut String,
 ) -> Result<(), NoMemory>
-    requires { IsNobody false objects.old groups.old cookbooks.old }
+    requires { IsNobody false objects.old groups.old shelves.old }
 {
     let mut there = false;
     step(
@@ -236,7 +236,7 @@ fn live(
         &mut there,
         objects,
         groups,
-        cookbooks,
+        shelves,
         text,
         node(alloc)?,
     )?;
@@ -245,7 +245,7 @@ fn live(
         &mut there,
         objects,
         groups,
-        cookbooks,
+        shelves,
         text,
         Move::Open,
     )?;
@@ -254,7 +254,7 @@ fn live(
         &mut there,
         objects,
         groups,
-        cookbooks,
+        shelves,
         text,
         node(alloc)?,
     )?;
@@ -263,7 +263,7 @@ fn live(
         &mut there,
         objects,
         groups,
-        cookbooks,
+        shelves,
         text,
         gone(alloc)?,
     )?;
@@ -272,7 +272,7 @@ fn live(
         &mut there,
         objects,
         groups,
-        cookbooks,
+        shelves,
         text,
         no_users(alloc, hasher)?,
     )?;
@@ -281,7 +281,7 @@ fn live(
         &mut there,
         objects,
         groups,
-        cookbooks,
+        shelves,
         text,
         comes(alloc)?,
     )?;
@@ -290,7 +290,7 @@ fn live(
         &mut there,
         objects,
         groups,
-        cookbooks,
+        shelves,
         text,
         goes(alloc)?,
     )
@@ -300,15 +300,8 @@ fn live(
 fn add_life(alloc: Global, hasher: RandomState, text: &mut String) -> Result<(), NoMemory> {
     let mut objects = Objects::none(alloc, hasher);
     let mut groups = Groups::none(alloc, hasher);
-    let mut cookbooks = Cookbooks::none(alloc);
-    live(
-        alloc,
-        hasher,
-        &mut objects,
-        &mut groups,
-        &mut cookbooks,
-        text,
-    )
+    let mut shelves = OrgShelves::none(alloc);
+    live(alloc, hasher, &mut objects, &mut groups, &mut shelves, text)
 }
 
 #[test]

@@ -1,12 +1,8 @@
 -- Each step keeps the conditions of files.
-use Rattle.std.proofs.Common.{◌≡◌, ◌∙◌, ℕ, List, [], ◌∷◌, Option, Some, None, Result, Ok, Err, unwrap_or, ap, refl, subst, sym}
-use Rattle.std.specs.FinMap as finite
-use Rattle.doc_tree.specs.Doc.{Doc, dict, no_pairs}
+use Rattle.std.proofs.Common.{◌≡◌, ◌∙◌, ℕ, List, [], ◌∷◌, Option, Some, None, Result, Ok, Err, unwrap_or, refl, subst, sym}
+use Rattle.doc_tree.specs.Doc.{dict, no_pairs}
 use Rattle.access_lists.specs.declared.perm.Perm.TheVariants as permission
-use Rattle.shelves.specs.Shelves.{text_cmp, value_at}
-use Rattle.version_rules.specs.Order.{version_cmp}
-use Rattle.version_rules.specs.declared.versions.Version.{Version}
-use Rattle.org_core.specs.States.{cookbooks_of}
+use Rattle.org_shelves.proofs.StayingLemmas.{nothing_there}
 use Rattle.route_table.specs.declared.verbs.Verb.{Verb}
 use Rattle.route_table.specs.declared.verbs.Verb.TheVariants.{Get, Post, Put, Delete, Other}
 use Rattle.org_core.proofs.FileConditionsLemmas.{moves_keep_files}
@@ -22,7 +18,7 @@ use Rattle.org_core.specs.declared.routes.Route.TheVariants.{Organisation, Objec
 use Rattle.org_core.specs.Contexts.{Context}
 use Rattle.org_core.specs.FileMoves.{after_all}
 use Rattle.org_core.specs.FullStates.{FullState, MeetsFileConditions, none}
-use Rattle.org_core.specs.Keeping.{KeepsFileConditions, PutsNoVersions, full_of}
+use Rattle.org_core.specs.Keeping.{KeepsFileConditions, NeverShelves, full_of}
 use Rattle.org_core.specs.Needs.{lacking}
 use Rattle.org_core.specs.Outcomes.{Decided, outcome_of, shows, tells, unless}
 use Rattle.org_core.specs.Refusals.{refuses}
@@ -32,7 +28,7 @@ use Rattle.access_routes.proofs.AccessLemmas.{access_puts_none}
 use Rattle.access_routes.specs.AccessRules.{access_rules}
 use Rattle.cookbook_routes.proofs.FileKeepingLemmas.{cookbooks_keep_files}
 use Rattle.cookbook_routes.specs.CookbookRules.{cookbook_rules}
-use Rattle.object_routes.proofs.VersionlessLemmas.{data_put_none, objects_put_none, organisations_put_none}
+use Rattle.object_routes.proofs.ShelflessLemmas.{data_put_none, objects_put_none, organisations_put_none}
 use Rattle.object_routes.specs.DataBags.{data_rules}
 use Rattle.object_routes.specs.Objects.{objects_rules}
 use Rattle.object_routes.specs.Organisations.{organisation_rules}
@@ -66,18 +62,18 @@ module _ {Route Operation : Type 0} where
   answered_files rules keeps context route request meets = by_operation_files rules keeps context route request (rules.operation context route request) meets refl
 
   -- a group that puts no cookbook version in keeps them
-  versionless_keeps : (rules : Rules Route Operation) → PutsNoVersions rules → KeepsFileConditions rules
-  versionless_keeps rules puts context route request operation meets is free = moves_keep_files context.org (outcome_of (rules.does context operation).answer).moves (full_of context) (puts context operation) meets
+  shelfless_keeps : (rules : Rules Route Operation) → NeverShelves rules → KeepsFileConditions rules
+  shelfless_keeps rules puts context route request operation meets is free = moves_keep_files context.org (outcome_of (rules.does context operation).answer).moves (full_of context) (puts context operation) meets
 
 -- a route keeps the conditions of files by the law of its group, one line a group
 at_route_files : (context : Context) (route : Route) (request : Request) → MeetsFileConditions (full_of context) → LeadsTo context.org (full_of context) (at_route context route request)
-at_route_files context (Organisation route) request meets = answered_files organisation_rules (versionless_keeps organisation_rules organisations_put_none) context route request meets
-at_route_files context (Objects collection route) request meets = answered_files (objects_rules collection) (versionless_keeps (objects_rules collection) (objects_put_none collection)) context route request meets
-at_route_files context (Data route) request meets = answered_files data_rules (versionless_keeps data_rules data_put_none) context route request meets
-at_route_files context (Access route) request meets = answered_files access_rules (versionless_keeps access_rules access_puts_none) context route request meets
+at_route_files context (Organisation route) request meets = answered_files organisation_rules (shelfless_keeps organisation_rules organisations_put_none) context route request meets
+at_route_files context (Objects collection route) request meets = answered_files (objects_rules collection) (shelfless_keeps (objects_rules collection) (objects_put_none collection)) context route request meets
+at_route_files context (Data route) request meets = answered_files data_rules (shelfless_keeps data_rules data_put_none) context route request meets
+at_route_files context (Access route) request meets = answered_files access_rules (shelfless_keeps access_rules access_puts_none) context route request meets
 at_route_files context (Cookbooks route) request meets = answered_files cookbook_rules cookbooks_keep_files context route request meets
 at_route_files context (Policies route) request meets = meets
-at_route_files context (Search route) request meets = answered_files search_rules (versionless_keeps search_rules searches_put_none) context route request meets
+at_route_files context (Search route) request meets = answered_files search_rules (shelfless_keeps search_rules searches_put_none) context route request meets
 
 at_organisations_files : (state : FullState) (caller : Option (List ℕ)) (verb : Verb) (body : Body) → MeetsFileConditions state → LeadsTo [] state (at_organisations caller verb body)
 at_organisations_files state caller Get body meets = unless_files [] state (lacking (context [] caller none) (Operator permission.Read ∷ [])) (tells (shows (dict no_pairs))) meets (λ _. meets)
@@ -109,14 +105,8 @@ after_keeps_files served request state meets = step_keeps_files request state me
 after_keeps_files short request state meets = meets
 after_keeps_files down request state meets = meets
 
--- where no organisation is, no cookbook version is
-nothing_at : (name : List ℕ) (version : Version) → value_at (cookbooks_of None) name version ≡ None
-nothing_at name version =
-    ap (λ (found : Option (finite.FinMap version_cmp Doc)). finite.get (unwrap_or found finite.empty) version) (finite.get-empty text_cmp name)
-    ∙ finite.get-empty {X = Doc} version_cmp version
-
 nobody_meets : MeetsFileConditions none
-nobody_meets = record { nobody = λ gone. refl; named = λ name version manifest sum at names. cc (sym (nothing_at name version) ∙ at) }
+nobody_meets = record { nobody = λ gone. refl; named = nothing_there none.files }
 
 -- an organisation that isn't there and has no files meets the conditions of files
 pub none_meets : (full : FullState) → full ≡ none → MeetsFileConditions full

@@ -28,7 +28,7 @@ use Rattle.org_core.proofs.ObjectConditionsLemmas.{same_keys, ties_itself}
 use Rattle.org_core.specs.Moves.{after_move, after_moves, opens, outside, within}
 use Rattle.org_core.specs.States.{Organisation, State, objects_of}
 use Rattle.org_core.specs.declared.moves.Move.{Move}
-use Rattle.org_core.specs.declared.moves.Move.TheVariants.{Open, Put, TakeOut, PutList, TakeList, AddUser, RemoveUser, AddClient, RemoveClient, PutGroup, RemoveGroup, OnCookbooks, OnFiles}
+use Rattle.org_core.specs.declared.moves.Move.TheVariants.{Open, Put, TakeOut, PutList, TakeList, AddUser, RemoveUser, AddClient, RemoveClient, PutGroup, RemoveGroup, OnShelves, OnFiles}
 use Rattle.org_machine.specs.Finding.{AreChanges, Entry, change_of, changed_at, changes_by, changes_of, entry_at, entry_of, in_order, is_kinds, item_entry, listed}
 use Rattle.org_machine.proofs.PairOrderLemmas.{lists-in_order}
 
@@ -290,7 +290,7 @@ move_exact org held (AddClient comer) o exact = exact
 move_exact org held (RemoveClient name) o exact = exact
 move_exact org held (PutGroup name members) o exact = exact
 move_exact org held (RemoveGroup name) o exact = exact
-move_exact org held (OnCookbooks move) o exact = exact
+move_exact org held (OnShelves move) o exact = exact
 move_exact org held (OnFiles move) o exact = exact
 
 after_more : (first rest : List Change) (held : Held) → after_changes (first ++ rest) held ≡ after_changes rest (after_changes first held)
@@ -367,7 +367,7 @@ move_stays org held (AddClient comer) = stay org held
 move_stays org held (RemoveClient name) = stay org held
 move_stays org held (PutGroup name members) = stay org held
 move_stays org held (RemoveGroup name) = stay org held
-move_stays org held (OnCookbooks move) = stay org held
+move_stays org held (OnShelves move) = stay org held
 move_stays org held (OnFiles move) = stay org held
 
 moves_stay : (org : List ℕ) (there : Bool) (moves : List Move) (held : Held) → OthersStay org held (after_changes (changes_by org there moves) held)

@@ -12,7 +12,8 @@ use Rattle.org_core.specs.Refusals.{reply_to, out_of_memory}
 use Rattle.access_lists.specs.Rooms as groups
 use Rattle.object_store.specs.Objects.{Store}
 use Rattle.org_core.specs.FullStates.{FullState}
-use Rattle.org_core.specs.States.{Kept, Shelved}
+use Rattle.org_core.specs.States.{Kept}
+use Rattle.org_shelves.specs.Shelved as shelves
 use Rattle.org_machine.specs.Marks.{mark_of, served, short, own_name, answer, after, IsLawful}
 use Rattle.org_machine.specs.Serving.{IsGood, ComesWith, Does, Looks}
 use Rattle.org_machine.specs.declared.serving.Ready.{Ready}
@@ -78,16 +79,16 @@ pub record IsPrepared (finder_looks : ℕ → ℕ) (prepared : Ready) (request :
   pub lawful : IsLawful (mark_of prepared.reply) request state
   pub moves : after_all (own_name request) prepared.moves state ≡ after (mark_of prepared.reply) request state
   pub made : ComesWith prepared.reply.status prepared.moves
-  pub room : HasRoom prepared.moves kept.objects kept.groups kept.cookbooks spare
+  pub room : HasRoom prepared.moves kept.objects kept.groups kept.shelves spare
   pub looks : Looks finder_looks prepared.reply request state before now
 
 -- it took just the looks of the step, and so at most these
 exactly : (before now count : ℕ) → now ≡ before + count → LooksAtMost count before now
 exactly before now count is = (omega (arith, is), omega (arith, is))
 
-no_room_needed : (moves : List Move) (store : Store) (members : groups.Kept) (cookbooks : Shelved) (spare : ℕ) → moves ≡ [] → HasRoom moves store members cookbooks spare
-no_room_needed moves store members cookbooks spare none =
-    subst (λ ms. HasRoom ms store members cookbooks spare) (sym none) (record { room = omega arith; orderly = refl; place = tt; versions = omega arith; files = omega arith })
+no_room_needed : (moves : List Move) (store : Store) (members : groups.Kept) (on : shelves.Kept) (spare : ℕ) → moves ≡ [] → HasRoom moves store members on spare
+no_room_needed moves store members on spare none =
+    subst (λ ms. HasRoom ms store members on spare) (sym none) (record { room = omega arith; orderly = refl; place = tt; shelved = omega arith; files = omega arith })
 
 short≢served : short ≡ served → ⊥
 short≢served same = cc
@@ -113,7 +114,7 @@ is_prepared finder_looks prepared request state kept spare before now (inr p) =
       lawful = subst (λ m. IsLawful m request state) (sym mark) tt;
       moves = ap (λ ms. after_all (own_name request) ms state) p.moves ∙ ap (λ m. after m request state) (sym mark);
       made = inl p.moves;
-      room = no_room_needed prepared.moves kept.objects kept.groups kept.cookbooks spare p.moves;
+      room = no_room_needed prepared.moves kept.objects kept.groups kept.shelves spare p.moves;
       looks = record { exact = λ is. absurd (short≢served (sym mark ∙ is)); most = p.looked };
     }
 
@@ -125,7 +126,7 @@ found_is_due prepared (Err refusal) found = absurd found
 
 -- what was found is done with room for it, or told as want of memory
 pub found_with_room : (finder_looks : ℕ → ℕ) (prepared : Prepared) (result : Ready) (due : Decided) (kept : Kept) (spare before now : ℕ)
-    → Finds (Ok prepared) due.answer → now ≡ before + all_looks finder_looks due → HasRoom result.moves kept.objects kept.groups kept.cookbooks spare
+    → Finds (Ok prepared) due.answer → now ≡ before + all_looks finder_looks due → HasRoom result.moves kept.objects kept.groups kept.shelves spare
     → ((result.reply ≡ prepared.reply) × (result.moves ≡ prepared.moves)) ⊎ ((result.reply ≡ out_of_memory) × (result.moves ≡ [])) → Does finder_looks result due kept spare before now
 found_with_room finder_looks prepared result due kept spare before now found looked room (inl same) =
     let is = found_is_due prepared due.answer found in

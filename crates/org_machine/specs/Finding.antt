@@ -14,7 +14,7 @@ use Rattle.search_query.specs.Pair.{Pair, pair_cmp}
 use Rattle.search_query.specs.Pairs.{pairs_of}
 use Rattle.org_core.specs.Moves.{opens}
 use Rattle.org_core.specs.declared.moves.Move.{Move}
-use Rattle.org_core.specs.declared.moves.Move.TheVariants.{Open, Put, TakeOut, PutList, TakeList, AddUser, RemoveUser, AddClient, RemoveClient, PutGroup, RemoveGroup, OnCookbooks, OnFiles}
+use Rattle.org_core.specs.declared.moves.Move.TheVariants.{Open, Put, TakeOut, PutList, TakeList, AddUser, RemoveUser, AddClient, RemoveClient, PutGroup, RemoveGroup, OnShelves, OnFiles}
 
 -- the word of an index, and an object's name in it
 abbrev pub Entry : Type 0
@@ -77,7 +77,7 @@ change_of org (AddClient comer) = None
 change_of org (RemoveClient name) = None
 change_of org (PutGroup name members) = None
 change_of org (RemoveGroup name) = None
-change_of org (OnCookbooks move) = None
+change_of org (OnShelves move) = None
 change_of org (OnFiles move) = None
 
 -- a change as a list, if there is one

@@ -31,7 +31,7 @@ IsOrShort reply due = (reply ≡ due) ⊎ (reply ≡ out_of_memory)
 pub record IsDue (finder_looks : ℕ → ℕ) (ready : Ready) (due : Decided) (kept : Kept) (spare before now : ℕ) : Type 0 where
   pub reply : ready.reply ≡ (outcome_of due.answer).reply
   pub moves : ready.moves ≡ (outcome_of due.answer).moves
-  pub room : HasRoom ready.moves kept.objects kept.groups kept.cookbooks spare
+  pub room : HasRoom ready.moves kept.objects kept.groups kept.shelves spare
   pub looked : now ≡ before + all_looks finder_looks due
 
 -- what is ready tells of want of memory and makes no move, after some of the looks

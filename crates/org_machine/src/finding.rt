@@ -108,7 +108,7 @@ fn change_of(alloc: Global, org: &Text, one: &Move) -> Result<Option<Change>, No
         | Move::RemoveClient(_)
         | Move::PutGroup(_, _)
         | Move::RemoveGroup(_)
-        | Move::OnCookbooks(_)
+        | Move::OnShelves(_)
         | Move::OnFiles(_) => Ok(None),
     }
 }

@@ -73,7 +73,7 @@ pub fn prepare<F: Finder, L: Ledger>(
     ensures lawful { IsLawful (mark_of result.reply) request.now (full_in state.old files.old) }
     ensures moves { after_all (own_name request.now) result.moves (full_in state.old files.old) ≡ after (mark_of result.reply) request.now (full_in state.old files.old) }
     ensures made { ComesWith result.reply.status result.moves }
-    ensures room { HasRoom result.moves state.new.objects state.new.groups state.new.cookbooks (spare_of files.new state.new.name) }
+    ensures room { HasRoom result.moves state.new.objects state.new.groups state.new.shelves (spare_of files.new state.new.name) }
     // The moves lead to a state that meets the conditions of every organisation's state.
     ensures conditions { MeetsConditions (after_moves result.moves (state_in state.new)) }
     // And so do its files, both as they are and as the moves leave them.
@@ -182,7 +182,7 @@ fn with_room<F: Finder>(
     ensures name { state.new.name ≡ state.old.name }
     ensures same { full_in state.new files.new ≡ full_in state.old files.old }
     ensures others { OthersStay state.old.name files.old files.new }
-    ensures room { HasRoom result.moves state.new.objects state.new.groups state.new.cookbooks (spare_of files.new state.new.name) }
+    ensures room { HasRoom result.moves state.new.objects state.new.groups state.new.shelves (spare_of files.new state.new.name) }
     ensures done { ((result.reply ≡ prepared.reply) × (result.moves ≡ prepared.moves)) ⊎ ((result.reply ≡ refusals.out_of_memory) × (result.moves ≡ [])) }
     ensures held { F.held finder.new ≡ F.held finder.old }
     ensures finder_looks { F.looks finder.new ≡ F.looks finder.old }
@@ -212,7 +212,7 @@ fn room_made<F: Finder>(
     ensures name { state.new.name ≡ state.old.name }
     ensures same { full_in state.new files.new ≡ full_in state.old files.old }
     ensures others { OthersStay state.old.name files.old files.new }
-    ensures room { OnOk result (HasRoom moves.now state.new.objects state.new.groups state.new.cookbooks (spare_of files.new state.new.name)) }
+    ensures room { OnOk result (HasRoom moves.now state.new.objects state.new.groups state.new.shelves (spare_of files.new state.new.name)) }
     ensures held { F.held finder.new ≡ F.held finder.old }
     ensures finder_looks { F.looks finder.new ≡ F.looks finder.old }
     ensures changes { IfOk result (λ changes. AreChanges (F.held finder.new) state.new.name (is_some (state_in state.new)) moves.now changes) }
@@ -254,7 +254,7 @@ pub fn settle<F: Finder>(
     ready: Ready,
     finder: &mut F,
 ) -> Reply
-    requires room { HasRoom ready.moves state.old.objects state.old.groups state.old.cookbooks (spare_of files.old state.old.name) }
+    requires room { HasRoom ready.moves state.old.objects state.old.groups state.old.shelves (spare_of files.old state.old.name) }
     requires conditions { MeetsConditions (after_moves ready.moves (state_in state.old)) }
     requires files { MeetsFileConditions (after_all state.old.name ready.moves (full_in state.old files.old)) }
     requires exact { IsExact (F.held finder.old) state.old.name (objects_of (state_in state.old)) }

@@ -1,6 +1,7 @@
 //! The keys of objects and of terms, and keys of borrowed parts to look them up by.
 ghost use Rattle.std.specs.Cmp.{eq_by_cmp_equiv, partial_equiv_from_equiv, partial_order_from_total};
 ghost use Rattle.std.specs.Prelude.{◌≡◌, IfOk, Some, refl};
+ghost use Rattle.search_query.specs.Pair.{pair, pair_cmp};
 ghost use Rattle.search_index.specs.KeyOrder.{object_cmp, object_cmp_total, object_key, same_object, same_term, term_cmp, term_cmp_total, term_key};
 
 use doc_tree::Text;
@@ -58,7 +59,7 @@ impl Ord for ObjectKey {
     fn cmp(&self, other: &Self) -> Ordering {
         self.scope
             .cmp(&other.scope)
-            .then(self.name.cmp(&other.name))
+            .then_with(|| self.name.cmp(&other.name))
     }
 }
 
@@ -98,7 +99,7 @@ impl Ord for TermKey {
     fn cmp(&self, other: &Self) -> Ordering {
         self.scope
             .cmp(&other.scope)
-            .then(self.pair.cmp(&other.pair))
+            .then_with(|| self.pair.cmp(&other.pair))
     }
 }
 
@@ -113,9 +114,11 @@ impl<'a> Probe<ObjectKey> for ObjectAt<'a> {
     ghost sought = { λ o. object_key o.scope o.name.now };
 
     fn order_of(&self, key: &ObjectKey) -> Ordering {
-        key.scope
-            .cmp(&self.scope)
-            .then(key.name.as_bytes().cmp(self.name))
+        match key.scope.cmp(&self.scope) {
+            Ordering::Less => Ordering::Less,
+            Ordering::Equal => key.name.as_bytes().cmp(self.name),
+            Ordering::Greater => Ordering::Greater,
+        }
     }
 }
 
@@ -127,13 +130,27 @@ pub(crate) struct TermAt<'a> {
     pub(crate) value: &'a [u8],
 }
 
+impl<'a> TermAt<'a> {
+    // How a pair stands to the one that is sought.
+    fn order_of_pair(&self, found: &Pair) -> Ordering
+        ensures { result ≡ pair_cmp found.now (pair self.now.field.now self.now.value.now) }
+    {
+        match found.field().cmp(self.field) {
+            Ordering::Less => Ordering::Less,
+            Ordering::Equal => found.value().cmp(self.value),
+            Ordering::Greater => Ordering::Greater,
+        }
+    }
+}
+
 impl<'a> Probe<TermKey> for TermAt<'a> {
     ghost sought = { λ t. term_key t.scope t.field.now t.value.now };
 
     fn order_of(&self, key: &TermKey) -> Ordering {
-        key.scope
-            .cmp(&self.scope)
-            .then(key.pair.field().cmp(self.field))
-            .then(key.pair.value().cmp(self.value))
+        match key.scope.cmp(&self.scope) {
+            Ordering::Less => Ordering::Less,
+            Ordering::Equal => self.order_of_pair(&key.pair),
+            Ordering::Greater => Ordering::Greater,
+        }
     }
 }

@@ -51,7 +51,9 @@ impl Ord for Scope {
     ghost matches_eq = { λ x y. refl };
 
     fn cmp(&self, other: &Self) -> Ordering {
-        self.org.cmp(&other.org).then(self.index.cmp(&other.index))
+        self.org
+            .cmp(&other.org)
+            .then_with(|| self.index.cmp(&other.index))
     }
 }
 
@@ -68,6 +70,8 @@ impl<'a> Probe<Scope> for ScopeAt<'a> {
     ghost sought = { scope_at };
 
     fn order_of(&self, key: &Scope) -> Ordering {
-        key.org.cmp(self.org).then(key.index.cmp(self.index))
+        key.org
+            .cmp(self.org)
+            .then_with(|| key.index.cmp(self.index))
     }
 }

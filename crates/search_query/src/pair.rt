@@ -98,7 +98,7 @@ impl Ord for Pair {
     fn cmp(&self, other: &Self) -> Ordering {
         self.field()
             .cmp(other.field())
-            .then(self.value().cmp(other.value()))
+            .then_with(|| self.value().cmp(other.value()))
     }
 }
 

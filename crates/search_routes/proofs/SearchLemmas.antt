@@ -1,6 +1,6 @@
 -- Searches change nothing.
 use Rattle.std.proofs.Common.{refl}
-use Rattle.org_core.specs.Keeping.{IsOrderlyGroup, KeepsConditions, PutsNoVersions, Someone}
+use Rattle.org_core.specs.Keeping.{IsOrderlyGroup, KeepsConditions, NeverShelves, Someone}
 use Rattle.search_routes.specs.declared.operations.SearchOperation.TheVariants as operation
 use Rattle.search_routes.specs.SearchRules.{search_rules}
 
@@ -12,6 +12,6 @@ pub searches_orderly : IsOrderlyGroup search_rules
 searches_orderly context operation.ListIndexes = refl
 searches_orderly context (operation.Find search) = refl
 
-pub searches_put_none : PutsNoVersions search_rules
+pub searches_put_none : NeverShelves search_rules
 searches_put_none context operation.ListIndexes = refl
 searches_put_none context (operation.Find search) = refl

@@ -1,6 +1,6 @@
 //! Laws of the definitions, which need no code.
 
-ghost use Rattle.org_core.specs.Keeping.{IsOrderlyGroup, KeepsConditions, PutsNoVersions, Someone};
+ghost use Rattle.org_core.specs.Keeping.{IsOrderlyGroup, KeepsConditions, NeverShelves, Someone};
 ghost use Rattle.search_routes.specs.SearchRules.{search_rules};
 
 /// The moves of these routes are orderly: there are none.
@@ -14,6 +14,6 @@ pub fn searches_keep_conditions()
 {}
 
 /// These routes put no cookbook version in, so what cookbooks name stays.
-pub fn searches_put_no_versions()
-    ensures { PutsNoVersions search_rules }
+pub fn searches_never_shelve()
+    ensures { NeverShelves search_rules }
 {}

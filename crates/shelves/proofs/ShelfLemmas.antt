@@ -109,7 +109,7 @@ module _ {K V : Type 0} (cmp : K → K → Ordering) (o : IsTotalOrder cmp) wher
         })
 
     -- a shelf is taken out
-    store-without : new ≡ entries_without text_cmp name shelves → store new ≡ finite.remove (store shelves) name
+    pub store-without : new ≡ entries_without text_cmp name shelves → store new ≡ finite.remove (store shelves) name
     store-without is =
         ap store is
         ∙ ap (λ l. finite.from_sorted {R = text_cmp} (map (named_shelf cmp) l)) (seen_without shelves name)

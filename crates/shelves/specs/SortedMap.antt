@@ -1,5 +1,5 @@
 -- Values by their keys, in the order of the keys.
-use Rattle.std.specs.Prelude.{◌≢◌, ◌-◌, ℕ, List, Option, IsSome, slice_get, refl}
+use Rattle.std.specs.Prelude.{◌≢◌, ◌-◌, ℕ, List, Option, IsSome, slice_get, map, refl}
 use Rattle.std.specs.Coded.{Coded, code_by, coded×, coded_ℕ, coded_list}
 use Rattle.std.specs.declared.cmp.Ordering.{Ordering}
 use Rattle.std.specs.declared.cmp.Ordering.TheVariants.{Less}
@@ -32,3 +32,7 @@ module _ {K V : Type 0} {cmp : K → K → Ordering} where
   -- no key of the map is above this one
   abbrev pub IsGreatest : K → finite.FinMap cmp V → Type 0
   IsGreatest greatest m = (key : K) → IsSome (finite.get m key) → cmp greatest key ≢ Less
+
+-- the map with each value seen through a function
+abbrev pub each_value : {K V W : Type 0} {cmp : K → K → Ordering} → (V → W) → finite.FinMap cmp V → finite.FinMap cmp W
+each_value {cmp = cmp} f m = finite.from_sorted {R = cmp} (map (λ e. (e.0, f e.1)) (finite.entries m))

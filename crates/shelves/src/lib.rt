@@ -3,10 +3,12 @@
 #![tactic(auto)]
 
 mod duplicate;
+mod forget;
 mod places;
 mod shelves;
 mod sorted_map;
 
 pub use duplicate::Duplicate;
+pub use forget::Forget;
 pub use shelves::Shelves;
 pub use sorted_map::SortedMap;

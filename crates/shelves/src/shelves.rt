@@ -148,9 +148,19 @@ impl<K: Ord + Drop, V: Drop> Shelves<K, V> {
             Err(_) => None,
         }
     }
+
+    /// Takes the whole shelf of a name out, if there is one. It takes no memory, and the room never falls.
+    pub fn remove_shelf(&mut self, name: &Text)
+        ensures shelves { shelves_of K.cmp self.new ≡ finite.remove (shelves_of K.cmp self.old) name.now }
+        ensures spare { self.old.spare ≤ self.new.spare }
+    {
+        if let Ok(at) = search(&self.shelves, name) {
+            let _ = self.shelves.remove(at);
+        }
+    }
 }
 
-impl<K: Ord + Copy + Drop, V: Duplicate + Drop> Shelves<K, V> {
+impl<K: Ord + Duplicate + Drop, V: Duplicate + Drop> Shelves<K, V> {
     /// Equal shelves with memory of their own, and no room for more.
     pub fn copy(&self, alloc: Global) -> Result<Shelves<K, V>, NoMemory>
         ensures shelves { IfOk result (λ copy. shelves_of K.cmp copy ≡ shelves_of K.cmp self.now) }
@@ -165,7 +175,7 @@ impl<K: Ord + Copy + Drop, V: Duplicate + Drop> Shelves<K, V> {
 }
 
 /// Copies of shelves, with their names.
-fn copies<K: Ord + Copy + Drop, V: Duplicate + Drop>(
+fn copies<K: Ord + Duplicate + Drop, V: Duplicate + Drop>(
     alloc: Global,
     shelves: &[(Text, SortedMap<K, V>)],
 ) -> Result<Vec<(Text, SortedMap<K, V>)>, NoMemory>

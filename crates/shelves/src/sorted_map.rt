@@ -1,12 +1,13 @@
 //! Values by their keys, in the order of the keys.
 ghost use Rattle.shelves.specs.Places.{IsInKeyOrder};
-ghost use Rattle.shelves.specs.SortedMap.{map_of, without_key, last_entry, IsGreatest};
+ghost use Rattle.shelves.specs.SortedMap.{map_of, without_key, last_entry, each_value, IsGreatest};
 ghost use Rattle.std.specs.FinMap as finite;
-ghost use Rattle.std.specs.Prelude.{[], ◌≡◌, ◌+◌, ◌≤◌, ◌↔◌, IsTrue, IfOk, IfSome, OnOk, is_some, option_copied};
+ghost use Rattle.std.specs.Prelude.{[], map, ◌≡◌, ◌+◌, ◌≤◌, ◌↔◌, IsTrue, IfOk, IfSome, OnOk, is_some, option_copied};
 
 use crate::duplicate::Duplicate;
+use crate::forget::Forget;
 use crate::places::search;
-use doc_tree::NoMemory;
+use doc_tree::{NoMemory, Text};
 use std::alloc::Global;
 use std::marker::Model;
 use std::mem;
@@ -143,7 +144,17 @@ impl<K: Ord + Drop, V: Drop> SortedMap<K, V> {
     }
 }
 
-impl<K: Ord + Copy + Drop, V: Duplicate + Drop> SortedMap<K, V> {
+impl<K: Ord, V: Forget> SortedMap<K, V> {
+    /// Has each value forget what it has under a name. It takes no memory, and the room stays.
+    pub fn forget_in_each(&mut self, name: &Text)
+        ensures map { map_of K.cmp self.new ≡ each_value (V.without name.now) (map_of K.cmp self.old) }
+        ensures spare { self.new.spare ≡ self.old.spare }
+    {
+        forget_in_each(&mut self.items, name);
+    }
+}
+
+impl<K: Ord + Duplicate + Drop, V: Duplicate + Drop> SortedMap<K, V> {
     /// An equal map with memory of its own, and no room for more.
     pub fn copy(&self, alloc: Global) -> Result<SortedMap<K, V>, NoMemory>
         ensures entries { IfOk result (λ copy. copy.entries ≡ self.now.entries) }
@@ -151,8 +162,17 @@ impl<K: Ord + Copy + Drop, V: Duplicate + Drop> SortedMap<K, V> {
         let entries = self.items.as_slice();
         let mut copies = Vec::with_capacity(alloc, entries.len())?;
         for (key, value) in entries {
-            copies.push((*key, value.duplicate(alloc)?))?;
+            copies.push((key.duplicate(alloc)?, value.duplicate(alloc)?))?;
         }
         Ok(SortedMap { items: copies })
+    }
+}
+
+/// Has the value of each entry forget what it has under a name.
+fn forget_in_each<K, V: Forget>(entries: &mut [(K, V)], name: &Text)
+    ensures { entries.new ≡ map (λ e. (e.0, V.without name.now e.1)) entries.old }
+{
+    for (_, value) in entries.iter_mut() {
+        value.forget(name);
     }
 }

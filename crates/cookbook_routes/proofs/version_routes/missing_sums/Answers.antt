@@ -5,7 +5,7 @@ use Rattle.std.proofs.lemmas.List.Kept.{IsStrictlySortedBy-filter}
 use Rattle.sandboxes.specs.Checksums.{text_cmp}
 use Rattle.sandboxes.specs.Files.{holding_of}
 use Rattle.sandboxes.specs.Sums.{IsRising}
-use Rattle.org_core.specs.FullStates.{is_committed}
+use Rattle.org_shelves.specs.Files.{is_committed}
 use Rattle.cookbook_routes.proofs.MissingLemmas.{sums_are}
 use Rattle.cookbook_routes.proofs.version_routes.missing_sums.Goals as goal
 

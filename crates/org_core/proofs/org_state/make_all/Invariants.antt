@@ -9,9 +9,9 @@ use Rattle.org_core.proofs.org_state.make_all.Given as goal
 -- what is left of the moves leads to where all of them lead, and there is room for it
 abbrev pub invariant-loop-one : goal.invariant-loop-one
 invariant-loop-one l =
-    (after_moves l.one-iterator.rest.items (state_from l.there l.objects l.groups l.cookbooks) ≡ after_moves l.fn.moves (state_from l.fn.there l.fn.objects l.fn.groups l.fn.cookbooks))
-    × HasRoom l.one-iterator.rest.items l.objects l.groups l.cookbooks (spare_of l.files l.org)
-    × IsNobody l.there l.objects l.groups l.cookbooks
-    × (files_after l.org l.one-iterator.rest.items (state_from l.there l.objects l.groups l.cookbooks) (holding_of l.files l.org)
-    ≡ files_after l.org l.fn.moves (state_from l.fn.there l.fn.objects l.fn.groups l.fn.cookbooks) (holding_of l.fn.files l.org))
+    (after_moves l.one-iterator.rest.items (state_from l.there l.objects l.groups l.shelves) ≡ after_moves l.fn.moves (state_from l.fn.there l.fn.objects l.fn.groups l.fn.shelves))
+    × HasRoom l.one-iterator.rest.items l.objects l.groups l.shelves (spare_of l.files l.org)
+    × IsNobody l.there l.objects l.groups l.shelves
+    × (files_after l.org l.one-iterator.rest.items (state_from l.there l.objects l.groups l.shelves) (holding_of l.files l.org)
+    ≡ files_after l.org l.fn.moves (state_from l.fn.there l.fn.objects l.fn.groups l.fn.shelves) (holding_of l.fn.files l.org))
     × OthersStay l.org l.fn.files l.files

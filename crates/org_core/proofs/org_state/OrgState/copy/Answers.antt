@@ -7,14 +7,14 @@ use Rattle.org_core.proofs.org_state.OrgState.copy.Goals as goal
 
 pub invariant_of-result : goal.invariant_of-result
 invariant_of-result c =
-    let same : AreCopies c.self.inside.objects c.in_ok-copy-2.field-0 c.self.inside.groups c.in_ok-copy-3.field-0 c.self.inside.cookbooks c.in_ok-copy-4.field-0 =
-    record { objects = c.in_ok-copy-2.ensures.objects; lists = c.in_ok-copy-2.ensures.lists; membership = c.in_ok-copy-3.ensures; cookbooks = c.in_ok-copy-4.ensures.shelves } in (
+    let same : AreCopies c.self.inside.objects c.in_ok-copy-2.field-0 c.self.inside.groups c.in_ok-copy-3.field-0 c.self.inside.shelves c.in_ok-copy-4.field-0 =
+    record { objects = c.in_ok-copy-2.ensures.objects; lists = c.in_ok-copy-2.ensures.lists; membership = c.in_ok-copy-3.ensures; shelved = c.in_ok-copy-4.ensures } in (
       same_nobody c.self.inside.there _ _ _ _ _ _ same c.self.invariant.0,
       subst MeetsConditions (sym (same_state c.self.inside.there _ _ _ _ _ _ same)) c.self.invariant.1,
     )
 
 pub returns-clause-state : goal.returns-clause-state
 returns-clause-state c =
-    let same : AreCopies c.self.inside.objects c.in_ok-copy-2.field-0 c.self.inside.groups c.in_ok-copy-3.field-0 c.self.inside.cookbooks c.in_ok-copy-4.field-0 =
-    record { objects = c.in_ok-copy-2.ensures.objects; lists = c.in_ok-copy-2.ensures.lists; membership = c.in_ok-copy-3.ensures; cookbooks = c.in_ok-copy-4.ensures.shelves } in
+    let same : AreCopies c.self.inside.objects c.in_ok-copy-2.field-0 c.self.inside.groups c.in_ok-copy-3.field-0 c.self.inside.shelves c.in_ok-copy-4.field-0 =
+    record { objects = c.in_ok-copy-2.ensures.objects; lists = c.in_ok-copy-2.ensures.lists; membership = c.in_ok-copy-3.ensures; shelved = c.in_ok-copy-4.ensures } in
     same_state c.self.inside.there _ _ _ _ _ _ same ∙ ap state_in c.self.view_is

@@ -1,0 +1,13 @@
+-- A group that is taken out is removed, since names that tie are one.
+use Rattle.std.proofs.Common.{ap}
+use Rattle.shelves.proofs.ShelfLaws.{text_same}
+use Rattle.shelves.specs.Shelves.{shelves_of, text_cmp}
+use Rattle.shelves.specs.SortedMap.{map_of}
+use Rattle.version_rules.specs.Order.{version_cmp}
+use Rattle.org_shelves.specs.Shelved.{PolicyGroups, Shelved, with_groups}
+use Rattle.org_shelves.proofs.org_shelves.OrgShelves.take_group.Goals as goal
+
+pub returns-clause-shelved : goal.returns-clause-shelved
+returns-clause-shelved c =
+    let s : Shelved = record { cookbooks = shelves_of version_cmp c.self.inside.cookbooks; artifacts = shelves_of text_cmp c.self.inside.artifacts; policies = shelves_of text_cmp c.self.inside.policies; groups = map_of text_cmp c.self.inside.groups } in
+    rw (← c.self.view_is) (ap (λ (groups : PolicyGroups). with_groups groups s) (c.remove.ensures.removed text_same))
