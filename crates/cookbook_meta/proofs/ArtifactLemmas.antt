@@ -7,6 +7,8 @@ use Rattle.doc_tree.specs.Doc.{Doc, null, boolean, whole, words, list, dict, Pai
 use Rattle.doc_tree.specs.Part.{pair_at}
 use Rattle.doc_tree.specs.Tree.{doc_of}
 use Rattle.doc_tree.specs.declared.tree.Tree.TheVariants as tree
+use Rattle.version_rules.proofs.FitLemmas.{fits_read}
+use Rattle.version_rules.specs.Laws.{FitsVersion}
 use Rattle.version_rules.specs.Versions.{reads_version, version_text}
 use Rattle.version_rules.specs.declared.fault.VersionFault.{VersionFault}
 use Rattle.version_rules.specs.declared.versions.Version.{Version}
@@ -21,6 +23,7 @@ use Rattle.cookbook_meta.specs.Segments.{segments, segment_docs, with_segments}
 use Rattle.cookbook_meta.specs.Sound.{IsOf, HasOwnPaths, HasChecksums}
 use Rattle.cookbook_meta.specs.Stored.{artifact_fields, artifact_keys, artifact_whole, beside, is_field, metadata_key, metadata_sent, with_pairs}
 use Rattle.cookbook_meta.specs.declared.entries.Entry.{Entry}
+use Rattle.cookbook_meta.specs.declared.fault.Flaw.{Flaw}
 use Rattle.cookbook_meta.specs.declared.fault.Flaw.TheVariants.{MissingField, WrongKind, NameDiffers}
 use Rattle.cookbook_meta.specs.declared.fault.MetaFault.{MetaFault}
 use Rattle.cookbook_meta.specs.declared.manifests.Manifest.{Manifest}
@@ -63,6 +66,7 @@ record Done (version : Result Version MetaFault) (frozen : Result Bool MetaFault
   own : Metadata
   entries : List Entry
   done : Unit {0}
+  version_is : version ≡ Ok release
   metadata_is : metadata release ≡ Ok own
   files_is : files ≡ Ok entries
   identified_is : identified ≡ Ok done
@@ -78,7 +82,7 @@ steps_done named version stated frozen metadata files identified make m is =
     let e = then_done (metadata b.0) (λ own. by_files files identified (make b.0 d.0 own)) m d.2 in
     let f = then_done files (λ entries. by_identified identified (make b.0 d.0 e.0 entries)) m e.2 in
     let g = then_done identified (λ done. Ok (make b.0 d.0 e.0 f.0)) m f.2 in
-    record { release = b.0; is_frozen = d.0; own = e.0; entries = f.0; done = g.0; metadata_is = e.1; files_is = f.1; identified_is = g.1; made = same_ok MetaFault (make b.0 d.0 e.0 f.0) m g.2 }
+    record { release = b.0; is_frozen = d.0; own = e.0; entries = f.0; done = g.0; version_is = b.1; metadata_is = e.1; files_is = f.1; identified_is = g.1; made = same_ok MetaFault (make b.0 d.0 e.0 f.0) m g.2 }
 
 -- the steps that an artifact is read by
 abbrev named_step : List ℕ → Pairs → Result (Unit {0}) MetaFault
@@ -138,6 +142,28 @@ artifact_paths name id body (Err f) gives = tt
 pub artifact_sums : (name id : List ℕ) (body : Pairs) (result : Result Manifest MetaFault) → Gives result (artifact_in name id body) → IfOk result (λ m. HasChecksums m.files)
 artifact_sums name id body (Ok m) gives = (artifact_keeps name id body m gives).sums
 artifact_sums name id body (Err f) gives = tt
+
+-- ---- the version
+
+version_fits : (text : List ℕ) (read : Result Version VersionFault) (version : Version) → reads_version text ≡ read → version_read read ≡ Ok version → FitsVersion version
+version_fits text (Ok other) version is gives = fits_read text version (is ∙ ap Ok (same_ok Flaw other version gives))
+version_fits text (Err fault) version is gives = cc
+
+-- the version that an artifact was read with fits 64 bits a part
+artifact_in_fits : (name id : List ℕ) (body : Pairs) (m : Manifest) → artifact_in name id body ≡ Ok m → FitsVersion m.version
+artifact_in_fits name id body m is =
+    let done = read_done name id body m is in
+    let sent = then_done (needed (codes "version") body) version_of done.release (field_done (codes "version") _ done.release done.version_is) in
+    let text = then_done (text_of sent.0) (λ text. version_read (reads_version text)) done.release sent.2 in
+    subst (λ (n : Manifest). FitsVersion n.version) done.made (version_fits text.0 (reads_version text.0) done.release refl text.2)
+
+pub artifact_fits : (name id : List ℕ) (body : Doc) (m : Manifest) → artifact_from name id body ≡ Ok m → FitsVersion m.version
+artifact_fits name id null m is = cc
+artifact_fits name id (boolean b) m is = cc
+artifact_fits name id (whole z) m is = cc
+artifact_fits name id (words text) m is = cc
+artifact_fits name id (list ds) m is = cc
+artifact_fits name id (dict body) m is = artifact_in_fits name id body m is
 
 -- ---- the identifier
 

@@ -12,6 +12,10 @@ use Rattle.cookbook_meta.specs.declared.manifests.Manifest.{Manifest}
 abbrev pub ManifestsReadBack : Type 0
 ManifestsReadBack = (name : List ℕ) (version : Version) (body : Doc) (m : Manifest) → FitsVersion version → manifest_from name version body ≡ Ok m → manifest_from name version (doc_of m.whole) ≡ Ok m
 
+-- the version of what a body gave as an artifact fits 64 bits a part
+abbrev pub ArtifactVersionsFit : Type 0
+ArtifactVersionsFit = (name id : List ℕ) (body : Doc) (m : Manifest) → artifact_from name id body ≡ Ok m → FitsVersion m.version
+
 -- what a body gave as an artifact is read, from the object that is stored of it, as itself
 abbrev pub ArtifactsReadBack : Type 0
 ArtifactsReadBack = (name id : List ℕ) (body : Doc) (m : Manifest) → FitsVersion m.version → artifact_from name id body ≡ Ok m → artifact_from name id (doc_of m.whole) ≡ Ok m

@@ -1,5 +1,5 @@
 //! Laws: what a stored manifest or artifact is read as.
-ghost use Rattle.cookbook_meta.specs.Laws.{ArtifactsReadBack, ManifestsReadBack};
+ghost use Rattle.cookbook_meta.specs.Laws.{ArtifactVersionsFit, ArtifactsReadBack, ManifestsReadBack};
 
 use version_rules::versions_read_back;
 
@@ -16,3 +16,8 @@ pub fn artifacts_read_back()
 {
     versions_read_back();
 }
+
+/// Each part of the version of what a body gave as an artifact fits 64 bits.
+pub fn artifact_versions_fit()
+    ensures { ArtifactVersionsFit }
+{}

@@ -19,7 +19,7 @@ pub use artifacts::read_artifact;
 pub use entries::{Entries, Entry};
 pub use fault::MetaFault;
 pub use identifiers::identifier;
-pub use laws::{artifacts_read_back, manifests_read_back};
+pub use laws::{artifact_versions_fit, artifacts_read_back, manifests_read_back};
 pub use manifests::{Manifest, read_manifest};
 pub use metadata::{Metadata, read_metadata, read_needs};
 pub use parts::is_identifier;

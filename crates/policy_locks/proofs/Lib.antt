@@ -1,7 +1,7 @@
 mod EachLemmas
 mod HexLemmas
 mod LineLemmas
-mod LockLemmas
+pub mod LockLemmas
 mod MakeLemmas
 mod OrderLemmas
 mod PutLemmas

@@ -17,7 +17,7 @@ use Rattle.cookbook_meta.specs.Faults.{then_do}
 use Rattle.cookbook_meta.specs.Stored.{beside, with_pairs}
 use Rattle.cookbook_meta.proofs.DoneLemmas.{same_ok, then_done}
 use Rattle.cookbook_meta.proofs.PutLemmas.{at_other, at_own, beside-puts, beside-twice}
-use Rattle.policy_locks.specs.Parts.{cookbook_locks, dict_of, kept_if, may, must, name_of, named_run_list, named_run_lists, read_or}
+use Rattle.policy_locks.specs.Parts.{cookbook_locks, dict_of, kept_if, may, must, name_of, named_run_list, named_run_lists, read_or, text_of}
 use Rattle.run_list_roots.specs.Reading.{each_of, item_named, item_of, run_list_of}
 use Rattle.policy_locks.specs.Outcomes.{Gives}
 use Rattle.policy_locks.specs.Reading.{IsInOrder, lock_from, lock_in, policy_name}
@@ -326,3 +326,26 @@ locks_again law policy (whole z) lock known is = cc
 locks_again law policy (words text) lock known is = cc
 locks_again law policy (list ds) lock known is = cc
 locks_again law policy (dict body) lock known is = lock_in_again law policy body lock known.0 is
+
+-- ---- the revision
+
+name_kept : (d : Doc) (name : List ℕ) → name_of d ≡ Some name → is_name name ≡ true
+name_kept d name is =
+    let text = then_found (text_of d) (kept_if is_name) name is in
+    let kept = kept_found is_name text.0 name text.2 in
+    subst (λ n. is_name n ≡ true) kept.1 kept.0
+
+-- the revision of a lock that was read is a Name
+named_in : (policy : Option (List ℕ)) (body : Pairs) (lock : Lock) → lock_in policy body ≡ Ok lock → is_name lock.revision_id ≡ true
+named_in policy body lock is =
+    let read = read_done policy body lock is in
+    let sent = then_found (pair_at (codes "revision_id") body) name_of read.revision (must_done (option_and_then name_of (pair_at (codes "revision_id") body)) (codes "revision_id") read.revision read.revision_is) in
+    subst (λ (l : Lock). is_name l.revision_id ≡ true) read.made (name_kept sent.0 read.revision sent.2)
+
+pub revision_named : (policy : Option (List ℕ)) (body : Doc) (lock : Lock) → lock_from policy body ≡ Ok lock → is_name lock.revision_id ≡ true
+revision_named policy null lock is = cc
+revision_named policy (boolean b) lock is = cc
+revision_named policy (whole z) lock is = cc
+revision_named policy (words text) lock is = cc
+revision_named policy (list ds) lock is = cc
+revision_named policy (dict body) lock is = named_in policy body lock is

@@ -1,5 +1,5 @@
 //! Laws: what a stored lock is read as.
-ghost use Rattle.policy_locks.specs.Laws.{LocksReadBack};
+ghost use Rattle.policy_locks.specs.Laws.{LocksReadBack, RevisionsAreNames};
 
 use run_list::stored_items_read_back;
 
@@ -9,3 +9,8 @@ pub fn locks_read_back()
 {
     stored_items_read_back();
 }
+
+/// The revision of a lock that a body gave is a Name.
+pub fn revisions_are_names()
+    ensures { RevisionsAreNames }
+{}

@@ -18,7 +18,7 @@ mod stored;
 pub use digests::revision_id;
 pub use fault::LockFault;
 pub use identifiers::{Identified, Identifiers};
-pub use laws::locks_read_back;
+pub use laws::{locks_read_back, revisions_are_names};
 pub use lock::{CookbookLock, CookbookLocks, Lock, NamedRunList, NamedRunLists};
 pub use make_fault::MakeFault;
 pub use making::make_lock;

@@ -1,5 +1,5 @@
 -- What the texts of versions and of constraints read as.
-use Rattle.std.specs.Prelude.{◌≡◌, ◌^◌, ◌<◌, Ok}
+use Rattle.std.specs.Prelude.{◌≡◌, ℕ, ◌^◌, ◌<◌, List, Ok}
 use Rattle.version_rules.specs.declared.versions.Version.{Version}
 use Rattle.version_rules.specs.Constraints.{constraint_text, reads_constraint}
 use Rattle.version_rules.specs.Terms.{Terms, AreParts}
@@ -10,6 +10,10 @@ pub record FitsVersion (v : Version) : Type 0 where
   pub major : v.major < 2 ^ 64
   pub minor : v.minor < 2 ^ 64
   pub patch : v.patch < 2 ^ 64
+
+-- what a text spells fits 64 bits a part
+abbrev pub VersionsFit : Type 0
+VersionsFit = (text : List ℕ) (v : Version) → reads_version text ≡ Ok v → FitsVersion v
 
 -- the text of a version reads as that version
 abbrev pub VersionsReadBack : Type 0

@@ -1,5 +1,10 @@
 //! Laws: what the texts of versions and constraints read as.
-ghost use Rattle.version_rules.specs.Laws.{ConstraintsReadBack, VersionsReadBack};
+ghost use Rattle.version_rules.specs.Laws.{ConstraintsReadBack, VersionsFit, VersionsReadBack};
+
+/// Each part of a version that a text spells fits 64 bits.
+pub fn versions_fit()
+    ensures { VersionsFit }
+{}
 
 /// The text of a version reads as that version.
 pub fn versions_read_back()
