@@ -1,6 +1,6 @@
 use doc_tree::{Bytes, Text};
 use outside_disk::{Disk, DiskFault, FileDisk, MemDisk};
-use std::alloc::{AllocError, Global};
+use std::alloc::Global;
 use std::fs;
 use std::test::Fail;
 
@@ -8,93 +8,150 @@ fn text(alloc: Global, text: &str) -> Result<Text, Fail> {
     Ok(Text::from_str(alloc, text)?)
 }
 
+// A test has all replies in one text, a line each, so that it holds few values: each costs a proof at each `?`.
+fn add(replies: &mut String, reply: &str) -> Result<(), Fail> {
+    replies.push_str(reply)?;
+    Ok(replies.push('\n')?)
+}
+
 // What a read answers: the file's text, or what came in its place.
-fn read<D: Disk>(alloc: Global, disk: &mut D, name: &Text) -> Result<String, AllocError> {
-    match disk.read(alloc, name) {
-        Ok(Some(bytes)) => String::from_utf8_lossy(alloc, bytes.as_slice()),
-        Ok(None) => String::from_str(alloc, "none"),
-        Err(DiskFault::Failed) => String::from_str(alloc, "failed"),
-        Err(DiskFault::NoMemory) => String::from_str(alloc, "out of memory"),
+fn read<D: Disk>(
+    alloc: Global,
+    disk: &mut D,
+    name: &str,
+    replies: &mut String,
+) -> Result<(), Fail> {
+    let name = text(alloc, name)?;
+    match disk.read(alloc, &name) {
+        Ok(Some(bytes)) => {
+            let kept = String::from_utf8_lossy(alloc, bytes.as_slice())?;
+            add(replies, kept.as_str())
+        }
+        Ok(None) => add(replies, "none"),
+        Err(DiskFault::Failed) => add(replies, "failed"),
+        Err(DiskFault::NoMemory) => add(replies, "out of memory"),
+    }
+}
+
+// What a write answers.
+fn write<D: Disk>(
+    alloc: Global,
+    disk: &mut D,
+    name: &str,
+    bytes: &[u8],
+    replies: &mut String,
+) -> Result<(), Fail> {
+    let name = text(alloc, name)?;
+    match disk.write(&name, bytes) {
+        Ok(()) => add(replies, "written"),
+        Err(_) => add(replies, "refused"),
     }
 }
 
 // What a listing answers: the names, each behind a space, or what came in their place.
-fn list<D: Disk>(alloc: Global, disk: &mut D, folder: &Text) -> Result<String, AllocError> {
-    match disk.list(alloc, folder) {
-        Ok(Some(names)) => spaced(alloc, names.as_slice()),
-        Ok(None) => String::from_str(alloc, "none"),
-        Err(DiskFault::Failed) => String::from_str(alloc, "failed"),
-        Err(DiskFault::NoMemory) => String::from_str(alloc, "out of memory"),
+fn list<D: Disk>(
+    alloc: Global,
+    disk: &mut D,
+    folder: &str,
+    replies: &mut String,
+) -> Result<(), Fail> {
+    let folder = text(alloc, folder)?;
+    match disk.list(alloc, &folder) {
+        Ok(Some(names)) => add_spaced(replies, names.as_slice()),
+        Ok(None) => add(replies, "none"),
+        Err(DiskFault::Failed) => add(replies, "failed"),
+        Err(DiskFault::NoMemory) => add(replies, "out of memory"),
     }
 }
 
-fn spaced(alloc: Global, names: &[Text]) -> Result<String, AllocError> {
-    let mut line = String::new(alloc);
+fn add_spaced(replies: &mut String, names: &[Text]) -> Result<(), Fail> {
     for name in names {
-        line.push(' ')?;
-        line.push_str(name.as_str())?;
+        replies.push(' ')?;
+        replies.push_str(name.as_str())?;
     }
-    Ok(line)
+    add(replies, "")
+}
+
+fn use_memory(alloc: Global, disk: &mut MemDisk, replies: &mut String) -> Result<(), Fail> {
+    read(alloc, disk, "a/b", replies)?;
+    write(alloc, disk, "a/b", b"abc", replies)?;
+    read(alloc, disk, "a/b", replies)?;
+    read(alloc, disk, "a/b", replies)?;
+    write(alloc, disk, "a/b", b"x", replies)?;
+    write(alloc, disk, "a/b", b"xy", replies)?;
+    write(alloc, disk, "a/b", b"z", replies)?;
+    read(alloc, disk, "a/b", replies)?;
+    put(alloc, disk, "a/B/x", b"")?;
+    put(alloc, disk, "ab/x", b"")?;
+    list(alloc, disk, "a", replies)?;
+    list(alloc, disk, "a", replies)?;
+    list(alloc, disk, "c", replies)
+}
+
+fn put(alloc: Global, disk: &mut MemDisk, name: &str, bytes: &'static [u8]) -> Result<(), Fail> {
+    let name = text(alloc, name)?;
+    Ok(disk.put(name, Bytes::constant(bytes))?)
 }
 
 #[test]
 fn files_in_memory_are_read_and_written(rt: HostRuntime) -> Result<(), Fail> {
     let alloc = rt.alloc();
     let mut disk = MemDisk::new(alloc, vec![in alloc; 3, 5, 10]?, 4);
-    let name = text(alloc, "a/b")?;
-    disk.put(text(alloc, "c")?, Bytes::constant(b"kept"))?;
-    assert_eq!(rt; read(alloc, &mut disk, &name)?.as_str(), "none");
-    assert!(rt; disk.write(&name, b"abc").is_ok());
-    assert_eq!(rt; read(alloc, &mut disk, &name)?.as_str(), "failed");
-    assert_eq!(rt; read(alloc, &mut disk, &name)?.as_str(), "abc");
-    assert!(rt; disk.write(&name, b"x").is_err());
-    assert!(rt; disk.write(&name, b"xy").is_err());
-    assert!(rt; disk.write(&name, b"z").is_ok());
-    assert_eq!(rt; read(alloc, &mut disk, &name)?.as_str(), "z");
-    assert!(rt; disk.file(&text(alloc, "c")?).is_some());
-    disk.put(text(alloc, "a/B/x")?, Bytes::constant(b""))?;
-    disk.put(text(alloc, "ab/x")?, Bytes::constant(b""))?;
-    let folder = text(alloc, "a")?;
-    assert_eq!(rt; list(alloc, &mut disk, &folder)?.as_str(), " B/x b");
-    assert_eq!(rt; list(alloc, &mut disk, &folder)?.as_str(), "failed");
+    put(alloc, &mut disk, "c", b"kept")?;
+    let mut replies = String::new(alloc);
+    use_memory(alloc, &mut disk, &mut replies)?;
     assert_eq!(rt;
-        list(alloc, &mut disk, &text(alloc, "c")?)?.as_str(),
-        "none"
+        replies.as_str(),
+        "none\nwritten\nfailed\nabc\nrefused\nrefused\nwritten\nz\n B/x b\nfailed\nnone\n"
     );
+    assert!(rt; disk.file(&text(alloc, "c")?).is_some());
     Ok(())
+}
+
+fn use_file(alloc: Global, disk: &mut FileDisk, replies: &mut String) -> Result<(), Fail> {
+    write(
+        alloc,
+        disk,
+        "a-file-of-a-test",
+        b"first and longer",
+        replies,
+    )?;
+    write(alloc, disk, "a-file-of-a-test", b"second", replies)?;
+    read(alloc, disk, "a-file-of-a-test", replies)
+}
+
+fn use_no_file(alloc: Global, disk: &mut FileDisk, replies: &mut String) -> Result<(), Fail> {
+    read(alloc, disk, "a-file-of-a-test", replies)?;
+    read(alloc, disk, "/", replies)?;
+    write(alloc, disk, "/", b"x", replies)
+}
+
+fn use_folder(alloc: Global, disk: &mut FileDisk, replies: &mut String) -> Result<(), Fail> {
+    write(alloc, disk, "a-folder-of-a-test/inner/a", b"x", replies)?;
+    write(alloc, disk, "a-folder-of-a-test/b", b"x", replies)?;
+    list(alloc, disk, "a-folder-of-a-test", replies)
+}
+
+fn use_no_folder(alloc: Global, disk: &mut FileDisk, replies: &mut String) -> Result<(), Fail> {
+    list(alloc, disk, "a-folder-of-a-test", replies)?;
+    list(alloc, disk, "\0", replies)
 }
 
 #[test]
 fn files_of_the_system_are_read_and_written(rt: HostRuntime) -> Result<(), Fail> {
     let alloc = rt.alloc();
     let mut disk = FileDisk::new(rt.clone()?);
-    let name = text(alloc, "a-file-of-a-test")?;
-    assert!(rt; disk.write(&name, b"first and longer").is_ok());
-    assert!(rt; disk.write(&name, b"second").is_ok());
-    assert_eq!(rt; read(alloc, &mut disk, &name)?.as_str(), "second");
-    fs::remove_file(&rt, name.as_str())?;
-    assert_eq!(rt; read(alloc, &mut disk, &name)?.as_str(), "none");
-    assert_eq!(rt;
-        read(alloc, &mut disk, &text(alloc, "/")?)?.as_str(),
-        "failed"
-    );
-    assert!(rt; disk.write(&text(alloc, "/")?, b"x").is_err());
-    let folder = text(alloc, "a-folder-of-a-test")?;
+    let mut replies = String::new(alloc);
+    use_file(alloc, &mut disk, &mut replies)?;
+    fs::remove_file(&rt, "a-file-of-a-test")?;
+    use_no_file(alloc, &mut disk, &mut replies)?;
     fs::create_dir_all(&rt, "a-folder-of-a-test/inner")?;
-    assert!(rt;
-        disk.write(&text(alloc, "a-folder-of-a-test/inner/a")?, b"x")
-            .is_ok()
-    );
-    assert!(rt;
-        disk.write(&text(alloc, "a-folder-of-a-test/b")?, b"x")
-            .is_ok()
-    );
-    assert_eq!(rt; list(alloc, &mut disk, &folder)?.as_str(), " b inner/a");
-    fs::remove_dir_all(&rt, folder.as_str())?;
-    assert_eq!(rt; list(alloc, &mut disk, &folder)?.as_str(), "none");
+    use_folder(alloc, &mut disk, &mut replies)?;
+    fs::remove_dir_all(&rt, "a-folder-of-a-test")?;
+    use_no_folder(alloc, &mut disk, &mut replies)?;
     assert_eq!(rt;
-        list(alloc, &mut disk, &text(alloc, "\0")?)?.as_str(),
-        "failed"
+        replies.as_str(),
+        "written\nwritten\nsecond\nnone\nfailed\nrefused\nwritten\nwritten\n b inner/a\nnone\nfailed\n"
     );
     Ok(())
 }
