@@ -1,0 +1,5 @@
+//! The tests of `org_shelves`.
+#![tactic(auto)]
+
+#[cfg(test)]
+mod tests;
