@@ -39,7 +39,7 @@ use Rattle.cookbook_routes.specs.Versions.{is_frozen_found, keeps_others, missin
 
 -- ---- a version is put where no file is missing
 
-none_told : (sums : Sums) → missing_told sums ≡ None → sums ≡ []
+pub none_told : (sums : Sums) → missing_told sums ≡ None → sums ≡ []
 none_told [] is = refl
 none_told (sum ∷ sums) is = cc
 
@@ -53,7 +53,7 @@ there_if true true is none = refl
 there_if true false is none = cc
 there_if false committed is none = cc
 
-named_there : (files : Holding) (manifest : Doc) → missing_sums files manifest ≡ [] → (sum : List ℕ) → names_sum manifest sum ≡ true → is_committed files sum ≡ true
+pub named_there : (files : Holding) (manifest : Doc) → missing_sums files manifest ≡ [] → (sum : List ℕ) → names_sum manifest sum ≡ true → is_committed files sum ≡ true
 named_there files manifest none sum names =
     there_if (lists (in_order (sums_in manifest)) sum) (is_committed files sum) (lists-in_order (sums_in manifest) sum ∙ names)
     (sym (lists_filtered (λ s. not (is_committed files s)) (in_order (sums_in manifest)) sum) ∙ ap (λ (sums : Sums). lists sums sum) none)

@@ -26,7 +26,7 @@ use Rattle.org_core.specs.declared.refusals.Refusal.TheVariants.{BadField, Diges
 use Rattle.org_core.specs.declared.requests.Body.{Body}
 use Rattle.org_core.specs.declared.requests.Body.TheVariants.{Empty, Doc as Read, Bad, Raw, TooLong}
 use Rattle.org_core.specs.declared.routes.CookbookRoute.{CookbookRoute}
-use Rattle.org_core.specs.declared.routes.CookbookRoute.TheVariants.{Sandboxes, Sandbox, File, Cookbooks, Cookbook, Version, Universe, Artifacts, Artifact, SolvedVersions}
+use Rattle.org_core.specs.declared.routes.CookbookRoute.TheVariants.{Sandboxes, Sandbox, File, Cookbooks, Cookbook, Version, Universe, SolvedVersions}
 use Rattle.org_core.specs.Bodies.{absent, document_in}
 use Rattle.org_core.specs.Parameters.{asked_for}
 use Rattle.org_core.specs.Refusals.{first_some, refuses}
@@ -171,8 +171,6 @@ asked_plain Universe Post parameters body = tt
 asked_plain Universe Put parameters body = tt
 asked_plain Universe Delete parameters body = tt
 asked_plain Universe Other parameters body = tt
-asked_plain Artifacts verb parameters body = tt
-asked_plain (Artifact name id) verb parameters body = tt
 asked_plain (SolvedVersions environment) Get parameters body = tt
 asked_plain (SolvedVersions environment) Post parameters body = solving_for_plain (is_name environment) environment (document_in body) (document_plain body)
 asked_plain (SolvedVersions environment) Put parameters body = tt

@@ -1,9 +1,6 @@
 -- What is read of a PUT of a cookbook version: a name and a manifest of their forms.
-use Rattle.std.proofs.Common.{◌≡◌, ℕ, ◌^◌, ◌<◌, Bool, true, false, not, ◌||◌, List, [], ◌∷◌, Option, Some, None, Result, Ok, Err, cond, zero, suc, refl, sym, ap, subst, ◌∙◌, arith}
-use Rattle.std.proofs.lemmas.Bool.Decides.{nat_tests}
+use Rattle.std.proofs.Common.{◌≡◌, ℕ, Bool, true, false, List, Option, Some, None, Result, Ok, Err, cond, refl, sym, ap, subst, ◌∙◌}
 use Rattle.std.proofs.lemmas.Option.{same_Some}
-use Rattle.std.specs.Str.Parse.{digits_value}
-use Rattle.std.specs.List.{list_any}
 use Rattle.cookbook_editions.specs.Kept.{IsStored, stored_from}
 use Rattle.cookbook_meta.proofs.ReadBackLemmas.{manifests_again}
 use Rattle.cookbook_meta.specs.Faults.{then_do}
@@ -18,11 +15,11 @@ use Rattle.route_table.specs.declared.verbs.Verb.{Verb}
 use Rattle.route_table.specs.declared.verbs.Verb.TheVariants.{Get, Post, Put, Delete, Other}
 use Rattle.sandboxes.specs.Checksums.{checksum_in}
 use Rattle.sandboxes.specs.Sums.{Sums}
+use Rattle.version_rules.proofs.FitLemmas.{fits_read}
 use Rattle.version_rules.proofs.ReadBack.{versions_read_back}
 use Rattle.version_rules.specs.Laws.{FitsVersion}
-use Rattle.version_rules.specs.Versions.{is_too_large, is_version, number_at, parts_of, reads_version}
+use Rattle.version_rules.specs.Versions.{reads_version}
 use Rattle.version_rules.specs.declared.fault.VersionFault.{VersionFault}
-use Rattle.version_rules.specs.declared.fault.VersionFault.TheVariants.{NotAVersion, PartTooLarge}
 use Rattle.version_rules.specs.declared.versions.Version.{Version as VersionNumber}
 use Rattle.org_core.specs.Bodies.{document_in}
 use Rattle.org_shelves.specs.Conditions.{IsVersionOf}
@@ -30,7 +27,7 @@ use Rattle.org_core.specs.declared.refusals.Refusal.{Refusal}
 use Rattle.org_core.specs.declared.requests.Body.{Body}
 use Rattle.org_core.specs.declared.requests.Parameter.{Parameter}
 use Rattle.org_core.specs.declared.routes.CookbookRoute.{CookbookRoute}
-use Rattle.org_core.specs.declared.routes.CookbookRoute.TheVariants.{Sandboxes, Sandbox, File, Cookbooks, Cookbook, Version, Universe, Artifacts, Artifact, SolvedVersions}
+use Rattle.org_core.specs.declared.routes.CookbookRoute.TheVariants.{Sandboxes, Sandbox, File, Cookbooks, Cookbook, Version, Universe, SolvedVersions}
 use Rattle.cookbook_routes.specs.declared.operations.CookbookOperation.{CookbookOperation}
 use Rattle.cookbook_routes.specs.declared.operations.CookbookOperation.TheVariants as operation
 use Rattle.cookbook_routes.specs.declared.operations.Count.{Count}
@@ -42,36 +39,7 @@ use Rattle.cookbook_routes.specs.Sandboxes.{completion_refusal, sums_in}
 use Rattle.cookbook_routes.specs.Solving.{roots_asked}
 use Rattle.cookbook_routes.specs.Versions.{is_forced, manifest_said, or_bad_manifest, version_in, version_read, wanted_in}
 
--- ---- versions that are read fit
-
-neither : (a b : Bool) → (a || b) ≡ false → (a ≡ false) × (b ≡ false)
-neither true b none = cc
-neither false b none = (refl, none)
-
-small : (part : List ℕ) → is_too_large part ≡ false → digits_value 10 part < 2 ^ 64
-small part none = grind (arith, nat_tests)
-
-small_at : (parts : List (List ℕ)) (k : ℕ) → list_any is_too_large parts ≡ false → number_at parts k < 2 ^ 64
-small_at [] zero none = small [] refl
-small_at [] (suc k) none = small [] refl
-small_at (part ∷ rest) zero none = small part (neither (is_too_large part) (list_any is_too_large rest) none).0
-small_at (part ∷ rest) (suc k) none = small_at rest k (neither (is_too_large part) (list_any is_too_large rest) none).1
-
--- what is read of three numbers that aren't too large
-checked : (parts : List (List ℕ)) (version : VersionNumber) (a b : Bool) → list_any is_too_large parts ≡ b
-    → cond (not a) (Err NotAVersion) (cond b (Err PartTooLarge) (Ok (record { major = number_at parts 0; minor = number_at parts 1; patch = number_at parts 2 }))) ≡ Ok version → FitsVersion version
-checked parts version false b large is = cc
-checked parts version true true large is = cc
-checked parts version true false large is =
-    subst FitsVersion (same_Ok _ version is) (record { major = small_at parts 0 large; minor = small_at parts 1 large; patch = small_at parts 2 large })
-  where
-    same_Ok : (v w : VersionNumber) → ◌≡◌ {A = Result VersionNumber VersionFault} (Ok v) (Ok w) → v ≡ w
-    same_Ok v w same = cc same
-
--- a version that was read fits 64 bits a part
-fits_read : (text : List ℕ) (version : VersionNumber) → reads_version text ≡ Ok version → FitsVersion version
-fits_read text version is = checked (parts_of text) version (is_version (parts_of text)) (list_any is_too_large (parts_of text)) refl is
-
+-- what a version in the path was read as
 fits_in : (read : Result VersionNumber VersionFault) (version : VersionNumber) → version_read read ≡ Some version → read ≡ Ok version
 fits_in (Ok other) version is = ap Ok (same_Some other version is)
 fits_in (Err fault) version is = cc
@@ -207,8 +175,6 @@ asked_read Universe Post parameters body = tt
 asked_read Universe Put parameters body = tt
 asked_read Universe Delete parameters body = tt
 asked_read Universe Other parameters body = tt
-asked_read Artifacts verb parameters body = tt
-asked_read (Artifact name id) verb parameters body = tt
 asked_read (SolvedVersions environment) Get parameters body = tt
 asked_read (SolvedVersions environment) Post parameters body = solving_for_read (is_name environment) environment (document_in body)
 asked_read (SolvedVersions environment) Put parameters body = tt

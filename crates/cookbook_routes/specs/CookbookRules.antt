@@ -23,11 +23,11 @@ use Rattle.org_core.specs.States.{cookbooks_of, has_object}
 use Rattle.org_core.specs.declared.needs.Need.{Need}
 use Rattle.org_core.specs.declared.needs.Need.TheVariants.{Listed}
 use Rattle.org_core.specs.declared.refusals.Refusal.{Refusal}
-use Rattle.org_core.specs.declared.refusals.Refusal.TheVariants.{NotImplemented, NotFound, NotAllowed}
+use Rattle.org_core.specs.declared.refusals.Refusal.TheVariants.{NotFound, NotAllowed}
 use Rattle.org_core.specs.declared.requests.Body.{Body}
 use Rattle.org_core.specs.declared.requests.Parameter.{Parameter}
 use Rattle.org_core.specs.declared.routes.CookbookRoute.{CookbookRoute}
-use Rattle.org_core.specs.declared.routes.CookbookRoute.TheVariants.{Sandboxes, Sandbox, File, Cookbooks, Cookbook, Version, Universe, Artifacts, Artifact, SolvedVersions}
+use Rattle.org_core.specs.declared.routes.CookbookRoute.TheVariants.{Sandboxes, Sandbox, File, Cookbooks, Cookbook, Version, Universe, SolvedVersions}
 use Rattle.cookbook_routes.specs.declared.operations.CookbookOperation.{CookbookOperation}
 use Rattle.cookbook_routes.specs.declared.operations.CookbookOperation.TheVariants as operation
 use Rattle.cookbook_routes.specs.declared.operations.Count.{Count}
@@ -175,8 +175,6 @@ cookbook_asked Cookbooks verb parameters body = cookbooks_asked verb parameters
 cookbook_asked (Cookbook name) verb parameters body = cookbook_by_name name verb
 cookbook_asked (Version name version) verb parameters body = version_asked name version verb parameters body
 cookbook_asked Universe verb parameters body = universe_asked verb
-cookbook_asked Artifacts verb parameters body = Err NotImplemented
-cookbook_asked (Artifact name id) verb parameters body = Err NotImplemented
 cookbook_asked (SolvedVersions environment) verb parameters body = solving_asked environment verb body
 
 -- no environment has the name

@@ -56,9 +56,6 @@ impl Group for Cookbooks {
             CookbookRoute::SolvedVersions(environment) => {
                 solving_routes::solving_asked(alloc, environment, verb, body)
             }
-            CookbookRoute::Artifacts | CookbookRoute::Artifact(_, _) => {
-                Err(Stop::Refused(Refusal::NotImplemented))
-            }
         }
     }
 

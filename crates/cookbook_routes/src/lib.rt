@@ -15,3 +15,4 @@ mod version_routes;
 pub use cookbooks::Cookbooks;
 pub use laws::{cookbooks_are_orderly, cookbooks_keep_conditions};
 pub use operations::{CookbookOperation, Count, Wanted};
+pub use version_routes::{bad_manifest, missing_sums, shown_edition, shown_found};

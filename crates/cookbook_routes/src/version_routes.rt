@@ -131,8 +131,8 @@ fn edition_of(alloc: Global, tree: &Tree, name: &Name, version: &Version) -> Res
     }
 }
 
-// 400 with the first field that hasn't its form, or want of memory.
-fn bad_manifest(alloc: Global, fault: &MetaFault) -> Stop
+/// 400 with the first field of a manifest that hasn't its form, or want of memory.
+pub fn bad_manifest(alloc: Global, fault: &MetaFault) -> Stop
     ensures { spec.IsToldAs result fault.now }
 {
     match fault.field() {
@@ -255,8 +255,13 @@ fn is_frozen_at(context: Context<'_>, name: &Text, version: Version) -> bool
     }
 }
 
-// The checksums that a manifest names and of which the organisation has no committed file.
-fn missing_sums(alloc: Global, context: Context<'_>, edition: &Edition) -> Result<Sums, NoMemory>
+/// The checksums that a manifest names and of which the organisation has no committed file, in the order of
+/// their bytes. The error is want of memory.
+pub fn missing_sums(
+    alloc: Global,
+    context: Context<'_>,
+    edition: &Edition,
+) -> Result<Sums, NoMemory>
     ensures { IfOk result (λ sums. sums ≡ spec.missing_sums (seen context.entry).files edition.now) }
 {
     let mut missing = edition.sums().copy(alloc)?.into_vec();
@@ -283,12 +288,9 @@ pub(crate) fn show<L: Ledger>(
     })
 }
 
-/// A manifest as a reply shows it, where one was found.
-pub(crate) fn shown_found(
-    alloc: Global,
-    org: &Text,
-    found: Option<&Edition>,
-) -> Result<Tree, NoMemory>
+/// A manifest as a reply shows it, with the URLs of its files, where one was found, and null where none was. The
+/// error is want of memory.
+pub fn shown_found(alloc: Global, org: &Text, found: Option<&Edition>) -> Result<Tree, NoMemory>
     ensures { IfOk result (λ tree. doc_of tree ≡ spec.shown_found org.now (option_copied found.entry)) }
 {
     match found {
@@ -297,7 +299,8 @@ pub(crate) fn shown_found(
     }
 }
 
-fn shown_edition(alloc: Global, org: &Text, edition: &Edition) -> Result<Tree, NoMemory>
+/// A manifest as a reply shows it, with the URLs of its files. The error is want of memory.
+pub fn shown_edition(alloc: Global, org: &Text, edition: &Edition) -> Result<Tree, NoMemory>
     ensures { IfOk result (λ tree. doc_of tree ≡ spec.shown_found org.now (Some edition.now)) }
 {
     let front = joined(alloc, org_uri(alloc, org)?.as_str(), "/files/")?;

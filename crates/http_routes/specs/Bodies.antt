@@ -12,7 +12,7 @@ use Rattle.org_core.specs.declared.requests.Place.{Place}
 use Rattle.org_core.specs.declared.requests.Place.TheVariants.{Of, Organisations, LeftOut, NoRoute, NoMemory}
 use Rattle.org_core.specs.declared.requests.Request.{Request}
 use Rattle.org_core.specs.declared.routes.CookbookRoute.{CookbookRoute}
-use Rattle.org_core.specs.declared.routes.CookbookRoute.TheVariants.{Sandboxes, Sandbox, File, Cookbooks as AllCookbooks, Cookbook, Version, Universe, Artifacts, Artifact, SolvedVersions}
+use Rattle.org_core.specs.declared.routes.CookbookRoute.TheVariants.{Sandboxes, Sandbox, File, Cookbooks as AllCookbooks, Cookbook, Version, Universe, SolvedVersions}
 use Rattle.org_core.specs.declared.routes.Route.{Route}
 use Rattle.org_core.specs.declared.routes.Route.TheVariants.{Organisation, Objects, Data, Access, Cookbooks, Policies, Search}
 use Rattle.org_machine.specs.Heads.{head_refusal}
@@ -35,8 +35,6 @@ is_file_route AllCookbooks = false
 is_file_route (Cookbook name) = false
 is_file_route (Version name version) = false
 is_file_route Universe = false
-is_file_route Artifacts = false
-is_file_route (Artifact name id) = false
 is_file_route (SolvedVersions environment) = false
 
 abbrev pub is_file_below : Route → Bool

@@ -132,10 +132,10 @@ fn place_by(alloc: Global, path: Path, org: Text, segments: &mut IntoIter<Text>)
             CookbookRoute::Version(following(alloc, segments), next(alloc, segments)),
         ),
         Path::Universe => cookbooks(org, CookbookRoute::Universe),
-        Path::Artifacts => cookbooks(org, CookbookRoute::Artifacts),
-        Path::Artifact => cookbooks(
+        Path::Artifacts => policies(org, PolicyRoute::Artifacts),
+        Path::Artifact => policies(
             org,
-            CookbookRoute::Artifact(following(alloc, segments), next(alloc, segments)),
+            PolicyRoute::Artifact(following(alloc, segments), next(alloc, segments)),
         ),
         Path::SolvedVersions => cookbooks(
             org,

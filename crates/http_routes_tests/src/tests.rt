@@ -124,14 +124,14 @@ fn cookbooks(route: &CookbookRoute) -> Words<'_> {
         CookbookRoute::Cookbook(name) => ("cookbook", name.as_str(), "", ""),
         CookbookRoute::Version(name, version) => ("version", name.as_str(), version.as_str(), ""),
         CookbookRoute::Universe => ("universe", "", "", ""),
-        CookbookRoute::Artifacts => ("artifacts", "", "", ""),
-        CookbookRoute::Artifact(name, id) => ("artifact", name.as_str(), id.as_str(), ""),
         CookbookRoute::SolvedVersions(name) => ("solved", name.as_str(), "", ""),
     }
 }
 
 fn policies(route: &PolicyRoute) -> Words<'_> {
     match route {
+        PolicyRoute::Artifacts => ("artifacts", "", "", ""),
+        PolicyRoute::Artifact(name, id) => ("artifact", name.as_str(), id.as_str(), ""),
         PolicyRoute::Policies => ("policies", "", "", ""),
         PolicyRoute::Policy(name) => ("policy", name.as_str(), "", ""),
         PolicyRoute::Revisions(name) => ("revisions", name.as_str(), "", ""),

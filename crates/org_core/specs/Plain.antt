@@ -1,7 +1,7 @@
 -- Refusals other than that of a missing permission.
 use Rattle.std.specs.Prelude.{IfSome, Result, Ok, Err}
 use Rattle.org_core.specs.declared.refusals.Refusal.{Refusal}
-use Rattle.org_core.specs.declared.refusals.Refusal.TheVariants.{TooLarge, VersionNotTaken, NotImplemented, NotFound, NotAllowed, UnknownCaller, NotJson, TooDeep, NotWhole, BadField, Forbidden, AlreadyExists, MissingChecksums, DigestDiffers, SandboxesAtEnd, BadParameter, BadQuery, Frozen, Unsolvable}
+use Rattle.org_core.specs.declared.refusals.Refusal.TheVariants.{TooLarge, VersionNotTaken, NotImplemented, NotFound, NotAllowed, UnknownCaller, NotJson, TooDeep, NotWhole, BadField, Forbidden, AlreadyExists, MissingChecksums, DigestDiffers, SandboxesAtEnd, BadParameter, BadQuery, Frozen, RevisionDiffers, MissingArtifact, Unsolvable}
 use Rattle.org_core.specs.declared.requests.Request.{Request}
 use Rattle.org_core.specs.Contexts.{Context}
 use Rattle.org_core.specs.Rules.{Rules}
@@ -26,6 +26,8 @@ IsPlain SandboxesAtEnd = Unit {0}
 IsPlain (BadParameter name) = Unit {0}
 IsPlain (BadQuery place) = Unit {0}
 IsPlain Frozen = Unit {0}
+IsPlain RevisionDiffers = Unit {0}
+IsPlain (MissingArtifact cookbook identifier) = Unit {0}
 IsPlain (Unsolvable no_cookbook no_version) = Unit {0}
 
 -- so is a refusal that may come of it

@@ -4,7 +4,7 @@ use Rattle.std.specs.Prelude.{◌≡◌, Bool, cond, ℕ, List, [], ◌∷◌, �
 use Rattle.doc_tree.specs.Doc.{Doc, words, list, dict, docs_of, no_docs, pairs_of, then_doc}
 use Rattle.access_lists.specs.Acls.{word_of}
 use Rattle.org_core.specs.declared.refusals.Refusal.{Refusal}
-use Rattle.org_core.specs.declared.refusals.Refusal.TheVariants.{TooLarge, VersionNotTaken, NotImplemented, NotFound, NotAllowed, UnknownCaller, NotJson, TooDeep, NotWhole, BadField, Forbidden, AlreadyExists, MissingChecksums, DigestDiffers, SandboxesAtEnd, BadParameter, BadQuery, Frozen, Unsolvable}
+use Rattle.org_core.specs.declared.refusals.Refusal.TheVariants.{TooLarge, VersionNotTaken, NotImplemented, NotFound, NotAllowed, UnknownCaller, NotJson, TooDeep, NotWhole, BadField, Forbidden, AlreadyExists, MissingChecksums, DigestDiffers, SandboxesAtEnd, BadParameter, BadQuery, Frozen, RevisionDiffers, MissingArtifact, Unsolvable}
 use Rattle.org_core.specs.declared.refusals.Stop.{Stop}
 use Rattle.org_core.specs.declared.refusals.Stop.TheVariants.{Refused, NoMemory}
 use Rattle.org_core.specs.declared.replies.Reply.{Reply}
@@ -30,6 +30,8 @@ status_of SandboxesAtEnd = 409
 status_of (BadParameter name) = 400
 status_of (BadQuery place) = 400
 status_of Frozen = 409
+status_of RevisionDiffers = 409
+status_of (MissingArtifact cookbook identifier) = 400
 status_of (Unsolvable no_cookbook no_version) = 412
 
 -- {"error":[DOC]}
@@ -74,6 +76,8 @@ body_of SandboxesAtEnd = error_body (codes "sandbox count is at its end")
 body_of (BadParameter name) = error_body (codes "bad parameter " ++ name)
 body_of (BadQuery place) = error_body (codes "bad query at " ++ decimal place)
 body_of Frozen = error_body (codes "frozen")
+body_of RevisionDiffers = error_body (codes "revision differs")
+body_of (MissingArtifact cookbook identifier) = error_body (codes "missing artifact " ++ (cookbook ++ (codes "/" ++ identifier)))
 body_of (Unsolvable no_cookbook no_version) = error_of (unsolvable_doc no_cookbook no_version)
 
 -- the reply that tells of a refusal

@@ -58,6 +58,10 @@ pub enum Refusal {
     BadQuery(usize),
     /// 409: the cookbook version is frozen.
     Frozen,
+    /// 409: the revision of the policy is there with another content.
+    RevisionDiffers,
+    /// 400: the artifact that a lock names, of this cookbook and with this identifier, isn't there.
+    MissingArtifact(Text, Text),
     /// 412: no set of cookbook versions meets the run list. Both lists are of its cookbooks, in the order of
     /// their bytes.
     Unsolvable {
@@ -134,6 +138,13 @@ impl Refusal {
             Refusal::BadParameter(name) => bad_parameter(alloc, &name),
             Refusal::BadQuery(place) => bad_query(alloc, place),
             Refusal::Frozen => Ok(refused(StatusCode::CONFLICT, b"{\"error\":[\"frozen\"]}")),
+            Refusal::RevisionDiffers => Ok(refused(
+                StatusCode::CONFLICT,
+                b"{\"error\":[\"revision differs\"]}",
+            )),
+            Refusal::MissingArtifact(cookbook, identifier) => {
+                missing_artifact(alloc, &cookbook, &identifier)
+            }
             Refusal::Unsolvable {
                 no_cookbook,
                 no_version,
@@ -191,6 +202,16 @@ fn bad_query(alloc: Global, place: usize) -> Result<Reply, NoMemory>
     let mut digits = Buffer::new();
     let mut words = String::from_str(alloc, "bad query at ")?;
     words.push_str(digits.format(place))?;
+    bad_request_of(alloc, words)
+}
+
+fn missing_artifact(alloc: Global, cookbook: &Text, identifier: &Text) -> Result<Reply, NoMemory>
+    ensures { IfOk result (λ reply. reply ≡ spec.reply_to (Refusal.MissingArtifact cookbook.now identifier.now)) }
+{
+    let mut words = String::from_str(alloc, "missing artifact ")?;
+    words.push_str(cookbook.as_str())?;
+    words.push_str("/")?;
+    words.push_str(identifier.as_str())?;
     bad_request_of(alloc, words)
 }
 

@@ -71,17 +71,17 @@ pub enum CookbookRoute {
     Version(Text, Text),
     /// `/organizations/ORG/universe`
     Universe,
-    /// `/organizations/ORG/cookbook_artifacts`
-    Artifacts,
-    /// `/organizations/ORG/cookbook_artifacts/NAME/ID`
-    Artifact(Text, Text),
     /// `/organizations/ORG/environments/ENVIRONMENT/cookbook_versions`
     SolvedVersions(Text),
 }
 
-/// The routes of policies and their groups.
+/// The routes of artifacts, policies and their groups.
 #[derive(Drop)]
 pub enum PolicyRoute {
+    /// `/organizations/ORG/cookbook_artifacts`
+    Artifacts,
+    /// `/organizations/ORG/cookbook_artifacts/NAME/ID`
+    Artifact(Text, Text),
     /// `/organizations/ORG/policies`
     Policies,
     /// `/organizations/ORG/policies/POLICY`
@@ -120,7 +120,7 @@ pub enum Route {
     Access(AccessRoute),
     /// Files and cookbooks.
     Cookbooks(CookbookRoute),
-    /// Policies and their groups.
+    /// Artifacts, policies and their groups.
     Policies(PolicyRoute),
     /// Searches.
     Search(SearchRoute),

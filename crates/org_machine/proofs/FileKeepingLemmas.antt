@@ -1,5 +1,5 @@
 -- Each step keeps the conditions of files.
-use Rattle.std.proofs.Common.{◌≡◌, ◌∙◌, ℕ, List, [], ◌∷◌, Option, Some, None, Result, Ok, Err, unwrap_or, refl, subst, sym}
+use Rattle.std.proofs.Common.{◌≡◌, ℕ, List, [], ◌∷◌, Option, Some, None, Result, Ok, Err, unwrap_or, refl, subst, sym}
 use Rattle.doc_tree.specs.Doc.{dict, no_pairs}
 use Rattle.access_lists.specs.declared.perm.Perm.TheVariants as permission
 use Rattle.org_shelves.proofs.StayingLemmas.{nothing_there}
@@ -61,7 +61,7 @@ module _ {Route Operation : Type 0} where
       → LeadsTo context.org (full_of context) (answered_by rules context route request)
   answered_files rules keeps context route request meets = by_operation_files rules keeps context route request (rules.operation context route request) meets refl
 
-  -- a group that puts no cookbook version in keeps them
+  -- a group that puts nothing on a shelf keeps them
   shelfless_keeps : (rules : Rules Route Operation) → NeverShelves rules → KeepsFileConditions rules
   shelfless_keeps rules puts context route request operation meets is free = moves_keep_files context.org (outcome_of (rules.does context operation).answer).moves (full_of context) (puts context operation) meets
 

@@ -14,7 +14,7 @@ use Rattle.route_table.specs.declared.verbs.Verb.TheVariants.{Get, Post, Put, De
 use Rattle.org_core.specs.declared.needs.Need.{Need}
 use Rattle.org_core.specs.declared.needs.Need.TheVariants.{Operator, Listed}
 use Rattle.org_core.specs.declared.refusals.Refusal.{Refusal}
-use Rattle.org_core.specs.declared.refusals.Refusal.TheVariants.{TooLarge, VersionNotTaken, NotImplemented, NotFound, NotAllowed, UnknownCaller, NotJson, TooDeep, NotWhole, BadField, Forbidden, AlreadyExists, MissingChecksums, DigestDiffers, SandboxesAtEnd, BadParameter, BadQuery, Frozen, Unsolvable}
+use Rattle.org_core.specs.declared.refusals.Refusal.TheVariants.{TooLarge, VersionNotTaken, NotImplemented, NotFound, NotAllowed, UnknownCaller, NotJson, TooDeep, NotWhole, BadField, Forbidden, AlreadyExists, MissingChecksums, DigestDiffers, SandboxesAtEnd, BadParameter, BadQuery, Frozen, RevisionDiffers, MissingArtifact, Unsolvable}
 use Rattle.org_core.specs.declared.replies.Reply.{Reply}
 use Rattle.org_core.specs.declared.requests.Body.{Body}
 use Rattle.org_core.specs.declared.requests.Place.{Place}
@@ -80,6 +80,8 @@ plain_is_not SandboxesAtEnd plain is = not_403 409 refl is
 plain_is_not (BadParameter name) plain is = not_403 400 refl is
 plain_is_not (BadQuery place) plain is = not_403 400 refl is
 plain_is_not Frozen plain is = not_403 409 refl is
+plain_is_not RevisionDiffers plain is = not_403 409 refl is
+plain_is_not (MissingArtifact cookbook identifier) plain is = not_403 400 refl is
 plain_is_not (Unsolvable no_cookbook no_version) plain is = not_403 412 refl is
 plain_is_not (Forbidden permission) plain is = plain
 

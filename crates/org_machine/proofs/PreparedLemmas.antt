@@ -3,7 +3,7 @@ use Rattle.std.proofs.Common.{◌≡◌, ◌+◌, ◌⊎◌, ℕ, List, [], Resu
 use Rattle.org_core.specs.declared.groups.Prepared.{Prepared}
 use Rattle.org_core.specs.declared.moves.Move.{Move}
 use Rattle.org_core.specs.declared.refusals.Refusal.{Refusal}
-use Rattle.org_core.specs.declared.refusals.Refusal.TheVariants.{TooLarge, VersionNotTaken, NotImplemented, NotFound, NotAllowed, UnknownCaller, NotJson, TooDeep, NotWhole, BadField, Forbidden, AlreadyExists, MissingChecksums, DigestDiffers, SandboxesAtEnd, BadParameter, BadQuery, Frozen, Unsolvable}
+use Rattle.org_core.specs.declared.refusals.Refusal.TheVariants.{TooLarge, VersionNotTaken, NotImplemented, NotFound, NotAllowed, UnknownCaller, NotJson, TooDeep, NotWhole, BadField, Forbidden, AlreadyExists, MissingChecksums, DigestDiffers, SandboxesAtEnd, BadParameter, BadQuery, Frozen, RevisionDiffers, MissingArtifact, Unsolvable}
 use Rattle.org_core.specs.declared.requests.Request.{Request}
 use Rattle.org_core.specs.FileMoves.{after_all}
 use Rattle.org_core.specs.Rooms.{HasRoom}
@@ -45,6 +45,8 @@ refusal_is_served SandboxesAtEnd = refl
 refusal_is_served (BadParameter name) = refl
 refusal_is_served (BadQuery place) = refl
 refusal_is_served Frozen = refl
+refusal_is_served RevisionDiffers = refl
+refusal_is_served (MissingArtifact cookbook identifier) = refl
 refusal_is_served (Unsolvable no_cookbook no_version) = refl
 
 outcome_is_served : (answer : Result Done Refusal) → mark_of (outcome_of answer).reply ≡ served

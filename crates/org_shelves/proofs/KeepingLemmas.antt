@@ -26,9 +26,12 @@ some_of : {X : Type 0} (f : X → X) (found : Option X) → is_some (option_map 
 some_of f None = refl
 some_of f (Some x) = refl
 
--- each group that is there after a policy went was there
+-- the groups that are there after a policy went are those that were
+pub same_groups : (groups : PolicyGroups) (policy group : List ℕ) → is_some (finite.get (each_value (unassigned policy) groups) group) ≡ is_some (finite.get groups group)
+same_groups groups policy group = ap is_some (get-each_value (unassigned policy) nat_list_cmp_total groups group) ∙ some_of (unassigned policy) (finite.get groups group)
+
 group_was : (groups : PolicyGroups) (policy group : List ℕ) → IsTrue (is_some (finite.get (each_value (unassigned policy) groups) group)) → IsTrue (is_some (finite.get groups group))
-group_was groups policy group some = sym (ap is_some (get-each_value (unassigned policy) nat_list_cmp_total groups group) ∙ some_of (unassigned policy) (finite.get groups group)) ∙ some
+group_was groups policy group some = sym (same_groups groups policy group) ∙ some
 
 -- what is found among a group's assignments once a policy's is taken out
 unassigned_found : (policy : List ℕ) (found : Option Assigned) (p r : List ℕ) → option_and_then (λ (assigned : Assigned). finite.get assigned p) (option_map (unassigned policy) found) ≡ Some r

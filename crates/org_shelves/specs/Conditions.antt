@@ -19,10 +19,11 @@ IsVersionOf name version manifest = (is_name name ≡ true) × IsStored name ver
 abbrev pub IsArtifactOf : List ℕ → List ℕ → Doc → Type 0
 IsArtifactOf name id manifest = (is_name name ≡ true) × IsStoredArtifact name id manifest
 
--- the document is what is stored of a lock of this policy and revision
+-- the document is what is stored of a lock of this policy and revision that a body gave
 pub record IsStoredLock (policy revision : List ℕ) (doc : Doc) : Type 0 where
+  pub body : Doc
   pub lock : Lock
-  pub read : lock_from (Some policy) doc ≡ Ok lock
+  pub given : lock_from (Some policy) body ≡ Ok lock
   pub revision_is : lock.revision_id ≡ revision
   pub whole : doc_of lock.whole ≡ doc
 
