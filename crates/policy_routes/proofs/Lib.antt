@@ -1,0 +1,7 @@
+pub mod FileKeepingLemmas
+pub mod KeepingLemmas
+pub mod ListingLemmas
+pub mod OrderlyLemmas
+pub mod PlainLemmas
+pub mod ReadLemmas
+pub mod SameLemmas

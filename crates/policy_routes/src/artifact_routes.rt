@@ -1,0 +1,284 @@
+//! The routes of artifacts.
+
+ghost use Rattle.std.specs.Prelude.{◌≡◌, ◌∷◌, ◌&&◌, None, Some, Ok, IfOk, OnOk, is_some, not, cond, map, option_copied};
+ghost use Rattle.doc_tree.specs.Name.{is_name as spec_is_name};
+ghost use Rattle.doc_tree.specs.Part.{with_pair};
+ghost use Rattle.doc_tree.specs.Tree.{doc_of};
+ghost use Rattle.shelves.specs.Shelves.{has_shelf, shelves_of, text_cmp};
+ghost use Rattle.shelves.specs.SortedMap.{map_of};
+ghost use Rattle.org_core.specs.Bodies as bodies;
+ghost use Rattle.org_core.specs.Contexts.{seen};
+ghost use Rattle.org_core.specs.Outcomes.{Finds, Looked};
+ghost use Rattle.org_core.specs.Refusals.{Tells};
+ghost use Rattle.policy_routes.specs.Artifacts as spec;
+ghost use Rattle.policy_routes.specs.PolicyRules as rules;
+
+use crate::operations::PolicyOperation;
+use crate::trees::put;
+use access_lists::{Container, Perm};
+use cookbook_editions::Edition;
+use cookbook_meta::is_identifier;
+use cookbook_routes::{bad_manifest, missing_sums, shown_edition, shown_found};
+use doc_tree::{Fields, Kind, Name, NoMemory, Steps, Text, Tree, Trees, is_name};
+use org_core::{
+    Body, Context, Move, Moves, Need, Prepared, Refusal, Stop, absent, created_list, document_in,
+    joined, key_of, listed_need, made, one_move, org_uri, shown,
+};
+use org_shelves::{Artifacts, ShelfMove};
+use route_table::Verb;
+use shelves::SortedMap;
+use std::alloc::Global;
+use std::sync::ledger::Ledger;
+
+/// What is asked of an artifact.
+pub(crate) fn artifact_asked(
+    alloc: Global,
+    name: &Text,
+    id: &Text,
+    verb: Verb,
+    body: &Body,
+) -> Result<PolicyOperation, Stop>
+    ensures { Tells result (rules.artifact_asked name.now id.now verb body.now) }
+{
+    match verb {
+        Verb::Get => Ok(PolicyOperation::ShowArtifact(name.copy(alloc)?, id.copy(alloc)?)),
+        Verb::Put => put_asked(alloc, name, id, body),
+        Verb::Delete => Ok(PolicyOperation::RemoveArtifact(name.copy(alloc)?, id.copy(alloc)?)),
+        Verb::Post | Verb::Other => Err(Stop::Refused(Refusal::NotAllowed)),
+    }
+}
+
+// A PUT of an artifact, whose body is looked at in full where the path has the form of one's.
+fn put_asked(alloc: Global, name: &Text, id: &Text, body: &Body) -> Result<PolicyOperation, Stop>
+    ensures { Tells result (rules.put_artifact name.now id.now body.now) }
+{
+    match Name::of(name.copy(alloc)?) {
+        Ok(name) if is_identifier(id.as_str()) => putting(alloc, name, id, body),
+        _ => Err(Stop::Refused(absent(body))),
+    }
+}
+
+fn putting(alloc: Global, name: Name, id: &Text, body: &Body) -> Result<PolicyOperation, Stop>
+    ensures { Tells result (rules.putting_artifact name id.now (spec.artifact_said name id.now (bodies.document_in body.now))) }
+{
+    let edition = match document_in(body) {
+        Ok(tree) => edition_of(alloc, tree, &name, id)?,
+        Err(refusal) => return Err(Stop::Refused(refusal)),
+    };
+    let id = id.copy(alloc)?;
+    Ok(PolicyOperation::PutArtifact(name.into_text(), id, edition))
+}
+
+// What is stored of the artifact of this name and identifier that a tree gives.
+fn edition_of(alloc: Global, tree: &Tree, name: &Name, id: &Text) -> Result<Edition, Stop>
+    ensures { Tells result (spec.artifact_said name.now id.now (Ok (doc_of tree.now))) }
+{
+    match Edition::read_artifact(alloc, tree, name, id) {
+        Ok(edition) => Ok(edition),
+        Err(fault) => Err(bad_manifest(alloc, &fault)),
+    }
+}
+
+/// What the organisation stores of this cookbook under this identifier, if it does. It takes no memory.
+pub(crate) fn artifact_at<'c>(context: Context<'c>, name: &Text, id: &Text) -> Option<&'c Edition>
+    ensures { option_copied result ≡ spec.artifact_at (seen context.entry) name.now id.now }
+{
+    context.state.shelves().artifacts().get(name, id)
+}
+
+/// Whether there is no such artifact, or its place hasn't the form of one's.
+pub(crate) fn lacks_artifact(context: Context<'_>, name: &Text, id: &Text) -> bool
+    ensures { result ≡ spec.lacks_artifact (seen context.entry) name.now id.now }
+{
+    let is_place = is_name(name.as_str()) && is_identifier(id.as_str());
+    !(is_place && artifact_at(context, name, id).is_some())
+}
+
+fn has_artifacts(context: Context<'_>, name: &Text) -> bool
+    ensures { result ≡ has_shelf (spec.artifacts_of (seen context.entry)) name.now }
+{
+    context.state.shelves().artifacts().has(name)
+}
+
+/// The permission that a PUT of an artifact needs.
+pub(crate) fn put_need(alloc: Global, context: Context<'_>, name: &Text) -> Result<Need, NoMemory>
+    ensures { IfOk result (λ need. need ≡ spec.put_artifact_need (seen context.entry) name.now) }
+{
+    if has_artifacts(context, name) {
+        listed_need(alloc, Perm::Update, Kind::Artifact, name.as_str())
+    } else {
+        listed_need(alloc, Perm::Create, Kind::Container, "cookbook_artifacts")
+    }
+}
+
+/// Why an artifact isn't put: there is one under this identifier, or files are missing.
+pub(crate) fn put_refusal(
+    alloc: Global,
+    context: Context<'_>,
+    name: &Text,
+    id: &Text,
+    edition: &Edition,
+) -> Result<Option<Refusal>, NoMemory>
+    ensures { IfOk result (λ o. o ≡ spec.put_artifact_refusal (seen context.entry) name.now id.now edition.now) }
+{
+    if artifact_at(context, name, id).is_some() {
+        return Ok(Some(Refusal::AlreadyExists));
+    }
+    let missing = missing_sums(alloc, context, edition)?;
+    if missing.is_empty() {
+        return Ok(None);
+    }
+    Ok(Some(Refusal::MissingChecksums(missing)))
+}
+
+/// The artifacts are listed.
+pub(crate) fn list(alloc: Global, context: Context<'_>) -> Result<Prepared, NoMemory>
+    ensures { IfOk result (λ p. Finds (Ok p) (spec.artifacts_listed (seen context.entry)).answer) }
+{
+    let tree = listing_tree(alloc, context.org, context.state.shelves().artifacts())?;
+    Ok(Prepared {
+        reply: shown(alloc, &tree)?,
+        moves: Moves::new(alloc),
+    })
+}
+
+fn listing_tree(alloc: Global, org: &Text, artifacts: &Artifacts) -> Result<Tree, NoMemory>
+    ensures { IfOk result (λ tree. doc_of tree ≡ spec.artifact_listing org.now (shelves_of text_cmp artifacts.now)) }
+{
+    let mut fields = Fields::new(alloc);
+    for (name, shelf) in artifacts.shelves() {
+        let tree = artifacts_tree(alloc, org, name, shelf)?;
+        fields.put(name.copy(alloc)?, tree)?;
+    }
+    Ok(Tree::Dict(fields))
+}
+
+// The artifacts of a cookbook, with their path.
+fn artifacts_tree(
+    alloc: Global,
+    org: &Text,
+    name: &Text,
+    shelf: &SortedMap<Text, Edition>,
+) -> Result<Tree, NoMemory>
+    ensures { IfOk result (λ tree. doc_of tree ≡ spec.artifacts_doc org.now name.now (map_of text_cmp shelf.now)) }
+{
+    let artifacts = identifiers_tree(alloc, org, name, shelf.entries())?;
+    let url = artifacts_path(alloc, org, name)?;
+    let mut fields = Fields::with_capacity(alloc, 2)?;
+    put(alloc, &mut fields, "artifacts", artifacts)?;
+    put(alloc, &mut fields, "url", Tree::Words(url))?;
+    Ok(Tree::Dict(fields))
+}
+
+fn identifiers_tree(
+    alloc: Global,
+    org: &Text,
+    name: &Text,
+    entries: &[(Text, Edition)],
+) -> Result<Tree, NoMemory>
+    ensures { IfOk result (λ tree. doc_of tree ≡ spec.identifiers_doc org.now name.now entries.now) }
+{
+    let mut trees = Trees::new(alloc);
+    for (id, _) in entries {
+        trees.push(identifier_tree(alloc, org, name, id)?)?;
+    }
+    Ok(Tree::List(trees))
+}
+
+fn identifier_tree(alloc: Global, org: &Text, name: &Text, id: &Text) -> Result<Tree, NoMemory>
+    ensures { IfOk result (λ tree. doc_of tree ≡ spec.artifact_doc org.now name.now id.now) }
+{
+    let front = joined(alloc, artifacts_path(alloc, org, name)?.as_str(), "/")?;
+    let url = joined(alloc, front.as_str(), id.as_str())?;
+    let mut fields = Fields::with_capacity(alloc, 2)?;
+    put(
+        alloc,
+        &mut fields,
+        "identifier",
+        Tree::Words(id.copy(alloc)?),
+    )?;
+    put(alloc, &mut fields, "url", Tree::Words(url))?;
+    Ok(Tree::Dict(fields))
+}
+
+fn artifacts_path(alloc: Global, org: &Text, name: &Text) -> Result<Text, NoMemory>
+    ensures { IfOk result (λ path. path ≡ spec.artifacts_path org.now name.now) }
+{
+    let front = joined(alloc, org_uri(alloc, org)?.as_str(), "/cookbook_artifacts/")?;
+    joined(alloc, front.as_str(), name.as_str())
+}
+
+/// An artifact is shown.
+pub(crate) fn show<L: Ledger>(
+    alloc: Global,
+    context: Context<'_>,
+    name: &Text,
+    id: &Text,
+    steps: &mut Steps<L>,
+) -> Result<Prepared, Stop>
+    ensures done { Finds result (spec.artifact_shown (seen context.entry) name.now id.now).answer }
+    ensures looked { Looked result (spec.artifact_shown (seen context.entry) name.now id.now).looks steps.old steps.new }
+{
+    steps.tick();
+    let tree = shown_found(alloc, context.org, artifact_at(context, name, id))?;
+    Ok(Prepared {
+        reply: shown(alloc, &tree)?,
+        moves: Moves::new(alloc),
+    })
+}
+
+/// An artifact is put.
+pub(crate) fn put_artifact(
+    alloc: Global,
+    context: Context<'_>,
+    name: Text,
+    id: Text,
+    edition: Edition,
+) -> Result<Prepared, NoMemory>
+    ensures { IfOk result (λ p. Finds (Ok p) (spec.artifact_put (seen context.entry) name id edition).answer) }
+{
+    let reply = made(alloc, &shown_edition(alloc, context.org, &edition)?)?;
+    let is_first = !has_artifacts(context, &name);
+    let key = key_of(alloc, Kind::Artifact, name.as_str())?;
+    let put = ShelfMove::PutArtifact(name, id, edition);
+    let mut moves = one_move(alloc, Move::OnShelves(put))?;
+    if is_first {
+        let list = created_list(alloc, context, Container::CookbookArtifacts)?;
+        moves.push(Move::PutList(key, list))?;
+    }
+    Ok(Prepared { reply, moves })
+}
+
+/// An artifact goes.
+pub(crate) fn remove<L: Ledger>(
+    alloc: Global,
+    context: Context<'_>,
+    name: Text,
+    id: Text,
+    steps: &mut Steps<L>,
+) -> Result<Prepared, Stop>
+    ensures done { Finds result (spec.artifact_removed (seen context.entry) name id).answer }
+    ensures looked { Looked result (spec.artifact_removed (seen context.entry) name id).looks steps.old steps.new }
+{
+    steps.tick();
+    let tree = shown_found(alloc, context.org, artifact_at(context, &name, &id))?;
+    let reply = shown(alloc, &tree)?;
+    let is_last = !keeps_others(context, &name, &id);
+    let key = key_of(alloc, Kind::Artifact, name.as_str())?;
+    let take = ShelfMove::TakeArtifact(name, id);
+    let mut moves = one_move(alloc, Move::OnShelves(take))?;
+    if is_last {
+        moves.push(Move::TakeList(key))?;
+    }
+    Ok(Prepared { reply, moves })
+}
+
+// Whether the cookbook has other artifacts once this one is gone.
+fn keeps_others(context: Context<'_>, name: &Text, id: &Text) -> bool
+    ensures { result ≡ spec.keeps_artifacts (spec.artifacts_of (seen context.entry)) name.now id.now }
+{
+    match context.state.shelves().artifacts().shelf(name) {
+        Some(shelf) => shelf.len() > 1 || !shelf.contains(id),
+        None => false,
+    }
+}

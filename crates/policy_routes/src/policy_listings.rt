@@ -1,0 +1,111 @@
+//! Policies and their revisions in replies.
+
+ghost use Rattle.std.specs.Prelude.{◌≡◌, IfOk, Ok};
+ghost use Rattle.doc_tree.specs.Tree.{doc_of};
+ghost use Rattle.shelves.specs.Shelves.{shelf_of, shelves_of, text_cmp};
+ghost use Rattle.shelves.specs.SortedMap.{map_of};
+ghost use Rattle.org_core.specs.Contexts.{seen};
+ghost use Rattle.org_core.specs.Outcomes.{Finds};
+ghost use Rattle.org_core.specs.Replies.{one_key};
+ghost use Rattle.policy_routes.specs.Policies as spec;
+
+use crate::trees::put;
+use doc_tree::{Fields, Kind, NoMemory, Text, Tree};
+use org_core::{
+    Context, Move, Moves, Prepared, Reply, joined, key_of, one_move, org_uri, shown, shown_key,
+};
+use org_shelves::{Policies, Revision, ShelfMove};
+use shelves::SortedMap;
+use std::alloc::Global;
+
+/// The policies are listed.
+pub(crate) fn list(alloc: Global, context: Context<'_>) -> Result<Prepared, NoMemory>
+    ensures { IfOk result (λ p. Finds (Ok p) (spec.policies_listed (seen context.entry)).answer) }
+{
+    let tree = listing_tree(alloc, context.org, context.state.shelves().policies())?;
+    Ok(Prepared {
+        reply: shown(alloc, &tree)?,
+        moves: Moves::new(alloc),
+    })
+}
+
+fn listing_tree(alloc: Global, org: &Text, policies: &Policies) -> Result<Tree, NoMemory>
+    ensures { IfOk result (λ tree. doc_of tree ≡ spec.policy_listing org.now (shelves_of text_cmp policies.now)) }
+{
+    let mut fields = Fields::new(alloc);
+    for (name, shelf) in policies.shelves() {
+        let tree = listed_tree(alloc, org, name, shelf)?;
+        fields.put(name.copy(alloc)?, tree)?;
+    }
+    Ok(Tree::Dict(fields))
+}
+
+// A policy in a listing: its revisions and its path.
+fn listed_tree(
+    alloc: Global,
+    org: &Text,
+    name: &Text,
+    shelf: &SortedMap<Text, Revision>,
+) -> Result<Tree, NoMemory>
+    ensures { IfOk result (λ tree. doc_of tree ≡ spec.listed_policy org.now name.now (map_of text_cmp shelf.now)) }
+{
+    let revisions = revisions_tree(alloc, shelf)?;
+    let uri = policy_path(alloc, org, name)?;
+    let mut fields = Fields::with_capacity(alloc, 2)?;
+    put(alloc, &mut fields, "revisions", revisions)?;
+    put(alloc, &mut fields, "uri", Tree::Words(uri))?;
+    Ok(Tree::Dict(fields))
+}
+
+fn policy_path(alloc: Global, org: &Text, name: &Text) -> Result<Text, NoMemory>
+    ensures { IfOk result (λ path. path ≡ spec.policy_path org.now name.now) }
+{
+    let front = joined(alloc, org_uri(alloc, org)?.as_str(), "/policies/")?;
+    joined(alloc, front.as_str(), name.as_str())
+}
+
+fn revisions_tree(alloc: Global, shelf: &SortedMap<Text, Revision>) -> Result<Tree, NoMemory>
+    ensures { IfOk result (λ tree. doc_of tree ≡ spec.revisions_doc (map_of text_cmp shelf.now)) }
+{
+    let mut fields = Fields::new(alloc);
+    for (revision, _) in shelf.entries() {
+        fields.put(revision.copy(alloc)?, Tree::Dict(Fields::new(alloc)))?;
+    }
+    Ok(Tree::Dict(fields))
+}
+
+/// A policy is shown.
+pub(crate) fn show(alloc: Global, context: Context<'_>, policy: &Text) -> Result<Prepared, NoMemory>
+    ensures { IfOk result (λ p. Finds (Ok p) (spec.policy_shown (seen context.entry) policy.now).answer) }
+{
+    Ok(Prepared {
+        reply: policy_reply(alloc, context, policy)?,
+        moves: Moves::new(alloc),
+    })
+}
+
+// 200 with the revisions of a policy, of which one that isn't there has none.
+fn policy_reply(alloc: Global, context: Context<'_>, policy: &Text) -> Result<Reply, NoMemory>
+    ensures { IfOk result (λ reply. reply ≡ spec.policy_reply (seen context.entry) policy.now) }
+{
+    let revisions = match context.state.shelves().policies().shelf(policy) {
+        Some(shelf) => revisions_tree(alloc, shelf)?,
+        None => revisions_tree(alloc, &SortedMap::new(alloc))?,
+    };
+    shown_key(alloc, "revisions", revisions)
+}
+
+/// A policy goes, with its revisions, its assignments and its list.
+pub(crate) fn remove(
+    alloc: Global,
+    context: Context<'_>,
+    policy: Text,
+) -> Result<Prepared, NoMemory>
+    ensures { IfOk result (λ p. Finds (Ok p) (spec.policy_removed (seen context.entry) policy).answer) }
+{
+    let reply = policy_reply(alloc, context, &policy)?;
+    let key = key_of(alloc, Kind::Policy, policy.as_str())?;
+    let mut moves = one_move(alloc, Move::OnShelves(ShelfMove::TakePolicy(policy)))?;
+    moves.push(Move::TakeList(key))?;
+    Ok(Prepared { reply, moves })
+}

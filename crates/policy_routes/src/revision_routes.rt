@@ -1,0 +1,174 @@
+//! The routes of the revisions of policies.
+
+ghost use Rattle.std.specs.Prelude.{◌≡◌, ◌∷◌, IfOk, Ok, OnOk, cond, is_some, not, ◌&&◌, option_copied};
+ghost use Rattle.doc_tree.specs.Name.{is_name as spec_is_name};
+ghost use Rattle.doc_tree.specs.Tree.{doc_of};
+ghost use Rattle.shelves.specs.Shelves.{has_shelf};
+ghost use Rattle.org_core.specs.Contexts.{seen};
+ghost use Rattle.org_core.specs.Outcomes.{Finds, Looked};
+ghost use Rattle.org_core.specs.Refusals.{Tells};
+ghost use Rattle.policy_routes.specs.Policies as spec;
+ghost use Rattle.policy_routes.specs.PolicyRules as rules;
+
+use crate::lock_bodies::{artifact_refusal, lock_in};
+use crate::operations::PolicyOperation;
+use access_lists::{Container, Perm};
+use doc_tree::{Kind, Name, NoMemory, Steps, Text, Tree, is_name};
+use org_core::{
+    Body, Context, Move, Moves, Need, Prepared, Refusal, Stop, absent, created_list, key_of,
+    listed_need, made, one_move, shown,
+};
+use org_shelves::{Revision, ShelfMove};
+use policy_locks::Lock;
+use route_table::Verb;
+use std::alloc::Global;
+use std::sync::ledger::Ledger;
+
+/// What is asked of the revisions of a policy.
+pub(crate) fn revisions_asked(
+    alloc: Global,
+    policy: &Text,
+    verb: Verb,
+    body: &Body,
+) -> Result<PolicyOperation, Stop>
+    ensures { Tells result (rules.revisions_asked policy.now verb body.now) }
+{
+    match verb {
+        Verb::Post => adding(alloc, policy, body),
+        Verb::Get | Verb::Put | Verb::Delete | Verb::Other => {
+            Err(Stop::Refused(Refusal::NotAllowed))
+        }
+    }
+}
+
+// A POST of a revision, whose body is looked at in full where the path has the form of a policy's.
+fn adding(alloc: Global, policy: &Text, body: &Body) -> Result<PolicyOperation, Stop>
+    ensures { Tells result (rules.add_revision policy.now body.now) }
+{
+    match Name::of(policy.copy(alloc)?) {
+        Ok(policy) => {
+            let lock = lock_in(alloc, &policy, body)?;
+            Ok(PolicyOperation::AddRevision(policy.into_text(), lock))
+        }
+        Err(_) => Err(Stop::Refused(absent(body))),
+    }
+}
+
+/// The lock that the organisation stores of this policy and revision, if it does. It takes no memory.
+pub(crate) fn revision_at<'c>(
+    context: Context<'c>,
+    policy: &Text,
+    revision: &Text,
+) -> Option<&'c Revision>
+    ensures { option_copied result ≡ spec.revision_at (seen context.entry) policy.now revision.now }
+{
+    context.state.shelves().policies().get(policy, revision)
+}
+
+/// Whether there is no such revision, or one of the names has no name's form.
+pub(crate) fn lacks_revision(context: Context<'_>, policy: &Text, revision: &Text) -> bool
+    ensures { result ≡ spec.lacks_revision (seen context.entry) policy.now revision.now }
+{
+    let is_there = is_name(revision.as_str()) && revision_at(context, policy, revision).is_some();
+    !(is_name(policy.as_str()) && is_there)
+}
+
+/// Whether there is no policy of this name, or it has no name's form.
+pub(crate) fn lacks_policy(context: Context<'_>, policy: &Text) -> bool
+    ensures { result ≡ spec.lacks_policy (seen context.entry) policy.now }
+{
+    !(is_name(policy.as_str()) && has_policy(context, policy))
+}
+
+fn has_policy(context: Context<'_>, policy: &Text) -> bool
+    ensures { result ≡ has_shelf (spec.policies_of (seen context.entry)) policy.now }
+{
+    context.state.shelves().policies().has(policy)
+}
+
+/// The permission to put a revision of a policy.
+pub(crate) fn revision_need(
+    alloc: Global,
+    context: Context<'_>,
+    policy: &Text,
+) -> Result<Need, NoMemory>
+    ensures { IfOk result (λ need. need ≡ spec.revision_need (seen context.entry) policy.now) }
+{
+    if has_policy(context, policy) {
+        listed_need(alloc, Perm::Update, Kind::Policy, policy.as_str())
+    } else {
+        listed_need(alloc, Perm::Create, Kind::Container, "policies")
+    }
+}
+
+/// Why a revision isn't added: there is one of this name, or an artifact is missing.
+pub(crate) fn revision_refusal(
+    alloc: Global,
+    context: Context<'_>,
+    policy: &Text,
+    lock: &Lock,
+) -> Result<Option<Refusal>, NoMemory>
+    ensures { IfOk result (λ o. o ≡ spec.revision_refusal (seen context.entry) policy.now lock.now) }
+{
+    if revision_at(context, policy, lock.revision_id.as_text()).is_some() {
+        return Ok(Some(Refusal::AlreadyExists));
+    }
+    artifact_refusal(alloc, context, lock)
+}
+
+/// A revision is shown.
+pub(crate) fn show<L: Ledger>(
+    alloc: Global,
+    context: Context<'_>,
+    policy: &Text,
+    revision: &Text,
+    steps: &mut Steps<L>,
+) -> Result<Prepared, Stop>
+    ensures done { Finds result (spec.revision_shown (seen context.entry) policy.now revision.now).answer }
+    ensures looked { Looked result (spec.revision_shown (seen context.entry) policy.now revision.now).looks steps.old steps.new }
+{
+    steps.tick();
+    let reply = match revision_at(context, policy, revision) {
+        Some(lock) => shown(alloc, lock.tree())?,
+        None => shown(alloc, &Tree::Null)?,
+    };
+    Ok(Prepared {
+        reply,
+        moves: Moves::new(alloc),
+    })
+}
+
+/// A revision is added.
+pub(crate) fn add(
+    alloc: Global,
+    context: Context<'_>,
+    policy: Text,
+    lock: Lock,
+) -> Result<Prepared, NoMemory>
+    ensures { IfOk result (λ p. Finds (Ok p) (spec.revision_added (seen context.entry) policy lock).answer) }
+{
+    let reply = made(alloc, &lock.whole)?;
+    let moves = revision_moves(alloc, context, policy, lock)?;
+    Ok(Prepared { reply, moves })
+}
+
+/// A lock is stored as a revision of a policy, with the policy's list where it is the first.
+pub(crate) fn revision_moves(
+    alloc: Global,
+    context: Context<'_>,
+    policy: Text,
+    lock: Lock,
+) -> Result<Moves, NoMemory>
+    ensures { IfOk result (λ moves. moves ≡ spec.revision_moves (seen context.entry) policy lock) }
+{
+    let is_first = !has_policy(context, &policy);
+    let key = key_of(alloc, Kind::Policy, policy.as_str())?;
+    let revision = lock.revision_id.as_text().copy(alloc)?;
+    let put = ShelfMove::PutRevision(policy, revision, Revision::of(lock));
+    let mut moves = one_move(alloc, Move::OnShelves(put))?;
+    if is_first {
+        let list = created_list(alloc, context, Container::Policies)?;
+        moves.push(Move::PutList(key, list))?;
+    }
+    Ok(moves)
+}
