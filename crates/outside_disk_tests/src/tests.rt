@@ -108,7 +108,7 @@ fn files_in_memory_are_read_and_written(rt: HostRuntime) -> Result<(), Fail> {
     Ok(())
 }
 
-fn use_file(alloc: Global, disk: &mut FileDisk, replies: &mut String) -> Result<(), Fail> {
+fn use_file<D: Disk>(alloc: Global, disk: &mut D, replies: &mut String) -> Result<(), Fail> {
     write(
         alloc,
         disk,
@@ -120,19 +120,19 @@ fn use_file(alloc: Global, disk: &mut FileDisk, replies: &mut String) -> Result<
     read(alloc, disk, "a-file-of-a-test", replies)
 }
 
-fn use_no_file(alloc: Global, disk: &mut FileDisk, replies: &mut String) -> Result<(), Fail> {
+fn use_no_file<D: Disk>(alloc: Global, disk: &mut D, replies: &mut String) -> Result<(), Fail> {
     read(alloc, disk, "a-file-of-a-test", replies)?;
     read(alloc, disk, "/", replies)?;
     write(alloc, disk, "/", b"x", replies)
 }
 
-fn use_folder(alloc: Global, disk: &mut FileDisk, replies: &mut String) -> Result<(), Fail> {
+fn use_folder<D: Disk>(alloc: Global, disk: &mut D, replies: &mut String) -> Result<(), Fail> {
     write(alloc, disk, "a-folder-of-a-test/inner/a", b"x", replies)?;
     write(alloc, disk, "a-folder-of-a-test/b", b"x", replies)?;
     list(alloc, disk, "a-folder-of-a-test", replies)
 }
 
-fn use_no_folder(alloc: Global, disk: &mut FileDisk, replies: &mut String) -> Result<(), Fail> {
+fn use_no_folder<D: Disk>(alloc: Global, disk: &mut D, replies: &mut String) -> Result<(), Fail> {
     list(alloc, disk, "a-folder-of-a-test", replies)?;
     list(alloc, disk, "\0", replies)
 }
