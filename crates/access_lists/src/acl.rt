@@ -70,7 +70,7 @@ impl Acl {
     }
 
     /// An access list in which nobody has a permission. It takes no memory.
-    fn none(alloc: Global) -> Acl {
+    pub(crate) fn none(alloc: Global) -> Acl {
         Acl {
             create: Entry::none(alloc),
             read: Entry::none(alloc),
@@ -85,21 +85,15 @@ impl Acl {
         ensures { IfOk result (λ acl. acl ≡ self.now) }
     {
         let mut acl = Acl::none(alloc);
-        copy_entries(alloc, self, &mut acl)?;
-        Ok(acl)
+        copy_entries(alloc, self, &mut acl).and(Ok(acl))
     }
 
     /// This access list with one more actor in each entry, as who creates an object is in its list.
     pub fn with_actor(&self, alloc: Global, name: &Text) -> Result<Acl, NoMemory>
         ensures { IfOk result (λ acl. acl ≡ each_entry (with_actor name.now) self.now) }
     {
-        Ok(Acl {
-            create: self.create.with_actor(alloc, name)?,
-            read: self.read.with_actor(alloc, name)?,
-            update: self.update.with_actor(alloc, name)?,
-            delete: self.delete.with_actor(alloc, name)?,
-            grant: self.grant.with_actor(alloc, name)?,
-        })
+        let mut acl = Acl::none(alloc);
+        copy_with_actor(alloc, self, name, &mut acl).and(Ok(acl))
     }
 
     /// Takes an actor out of every entry, as one that is deleted goes. It takes no memory.
@@ -129,10 +123,34 @@ impl Acl {
 fn copy_entries(alloc: Global, from: &Acl, to: &mut Acl) -> Result<(), NoMemory>
     ensures { OnOk result (to.new ≡ from.now) }
 {
-    to.create = from.create.copy(alloc)?;
-    to.read = from.read.copy(alloc)?;
-    to.update = from.update.copy(alloc)?;
-    to.delete = from.delete.copy(alloc)?;
-    to.grant = from.grant.copy(alloc)?;
+    copy_entry(alloc, &from.create, &mut to.create)?;
+    copy_entry(alloc, &from.read, &mut to.read)?;
+    copy_entry(alloc, &from.update, &mut to.update)?;
+    copy_entry(alloc, &from.delete, &mut to.delete)?;
+    copy_entry(alloc, &from.grant, &mut to.grant)
+}
+
+fn copy_entry(alloc: Global, from: &Entry, to: &mut Entry) -> Result<(), NoMemory>
+    ensures { OnOk result (to.new ≡ from.now) }
+{
+    *to = from.copy(alloc)?;
+    Ok(())
+}
+
+// Copies each entry to the other list, with one more actor.
+fn copy_with_actor(alloc: Global, from: &Acl, name: &Text, to: &mut Acl) -> Result<(), NoMemory>
+    ensures { OnOk result (to.new ≡ each_entry (with_actor name.now) from.now) }
+{
+    add_actor(alloc, &from.create, name, &mut to.create)?;
+    add_actor(alloc, &from.read, name, &mut to.read)?;
+    add_actor(alloc, &from.update, name, &mut to.update)?;
+    add_actor(alloc, &from.delete, name, &mut to.delete)?;
+    add_actor(alloc, &from.grant, name, &mut to.grant)
+}
+
+fn add_actor(alloc: Global, from: &Entry, name: &Text, to: &mut Entry) -> Result<(), NoMemory>
+    ensures { OnOk result (to.new ≡ with_actor name.now from.now) }
+{
+    *to = from.with_actor(alloc, name)?;
     Ok(())
 }

@@ -5,6 +5,7 @@ ghost use Rattle.access_lists.specs.Changes.{joined, left};
 ghost use Rattle.doc_tree.specs.Valid.{InOrder};
 ghost use Rattle.access_lists.specs.Lists.{members_in, members_of};
 ghost use Rattle.access_lists.specs.MemberNames.{names_of};
+ghost use Rattle.access_lists.specs.Starting.{no_members};
 
 use crate::lists::GroupRow;
 use crate::member_kind::MemberKind;
@@ -37,15 +38,23 @@ impl Model for Group {
 }
 
 impl Group {
+    /// No members, and no room for any. It takes no memory.
+    pub(crate) fn none(alloc: Global, hasher: RandomState) -> Group
+        ensures { result.members ≡ no_members }
+    {
+        Group {
+            users: NameSet::none(alloc, hasher),
+            clients: NameSet::none(alloc, hasher),
+            groups: NameSet::none(alloc, hasher),
+        }
+    }
+
     /// The group that a row lists.
     pub fn of(alloc: Global, hasher: RandomState, row: &GroupRow) -> Result<Group, NoMemory>
         ensures { IfOk result (λ group. group.members ≡ members_in row.now) }
     {
-        Ok(Group {
-            users: NameSet::of(alloc, hasher, &row.users)?,
-            clients: NameSet::of(alloc, hasher, &row.clients)?,
-            groups: NameSet::of(alloc, hasher, &row.groups)?,
-        })
+        let mut group = Group::none(alloc, hasher);
+        group.copy_row(alloc, hasher, row).and(Ok(group))
     }
 
     /// The group of these users, clients and groups within it, of which it keeps copies.
@@ -58,22 +67,57 @@ impl Group {
     ) -> Result<Group, NoMemory>
         ensures { IfOk result (λ group. group.members ≡ members_of users.now clients.now groups.now) }
     {
-        Ok(Group {
-            users: NameSet::with(alloc, hasher, users)?,
-            clients: NameSet::with(alloc, hasher, clients)?,
-            groups: NameSet::with(alloc, hasher, groups)?,
-        })
+        let mut group = Group::none(alloc, hasher);
+        group
+            .copy_texts(alloc, hasher, users, clients, groups)
+            .and(Ok(group))
     }
 
     /// An equal group with memory of its own, and room for no more.
     pub(crate) fn copy(&self, alloc: Global) -> Result<Group, NoMemory>
         ensures { IfOk result (λ group. group.members ≡ self.now.members) }
     {
-        Ok(Group {
-            users: self.users.copy(alloc)?,
-            clients: self.clients.copy(alloc)?,
-            groups: self.groups.copy(alloc)?,
-        })
+        let mut group = Group::none(alloc, self.users.hasher());
+        group.copy_from(alloc, self).and(Ok(group))
+    }
+
+    // Copies the members that a row lists in place of its own.
+    fn copy_row(
+        &mut self,
+        alloc: Global,
+        hasher: RandomState,
+        row: &GroupRow,
+    ) -> Result<(), NoMemory>
+        ensures { OnOk result (self.new.members ≡ members_in row.now) }
+    {
+        self.users.copy_list(alloc, hasher, &row.users)?;
+        self.clients.copy_list(alloc, hasher, &row.clients)?;
+        self.groups.copy_list(alloc, hasher, &row.groups)
+    }
+
+    // Copies these users, clients and groups in place of its own.
+    fn copy_texts(
+        &mut self,
+        alloc: Global,
+        hasher: RandomState,
+        users: &[Text],
+        clients: &[Text],
+        groups: &[Text],
+    ) -> Result<(), NoMemory>
+        ensures { OnOk result (self.new.members ≡ members_of users.now clients.now groups.now) }
+    {
+        self.users.copy_texts(alloc, hasher, users)?;
+        self.clients.copy_texts(alloc, hasher, clients)?;
+        self.groups.copy_texts(alloc, hasher, groups)
+    }
+
+    // Copies the members of another group in place of its own.
+    fn copy_from(&mut self, alloc: Global, other: &Group) -> Result<(), NoMemory>
+        ensures { OnOk result (self.new.members ≡ other.now.members) }
+    {
+        self.users.copy_from(alloc, &other.users)?;
+        self.clients.copy_from(alloc, &other.clients)?;
+        self.groups.copy_from(alloc, &other.groups)
     }
 
     /// The names of its members of a kind, in the order of their bytes.
@@ -103,8 +147,7 @@ impl Group {
     {
         self.users.reserve(count)?;
         self.clients.reserve(count)?;
-        self.groups.reserve(count)?;
-        Ok(())
+        self.groups.reserve(count)
     }
 
     /// Puts a member in. It takes no memory.

@@ -5,7 +5,7 @@ ghost use Rattle.indexmap.specs.IndexMap.{spare};
 ghost use Rattle.access_lists.specs.Belonging.{is_member};
 ghost use Rattle.doc_tree.specs.Valid.{InOrder};
 ghost use Rattle.access_lists.specs.Changes.{changed, joined, left, left_all};
-ghost use Rattle.access_lists.specs.Lists.{with_rows};
+ghost use Rattle.access_lists.specs.Lists.{members_in, with_rows};
 ghost use Rattle.access_lists.specs.MemberNames.{members_named};
 ghost use Rattle.access_lists.specs.Rooms.{groups_seen, rooms_seen, room_of, OthersKeepRoom};
 
@@ -61,11 +61,7 @@ impl GroupMap {
         ensures { IfOk result (λ m. m.groups ≡ with_rows finite.empty rows.now) }
     {
         let mut items = IndexMap::with_capacity_and_hasher(alloc, rows.len(), hasher)?;
-        for row in rows {
-            let group = Group::of(alloc, hasher, row)?;
-            add(&mut items, row.name.as_text().copy(alloc)?, group)?;
-        }
-        Ok(GroupMap { items })
+        add_rows(alloc, hasher, rows, &mut items).and(Ok(GroupMap { items }))
     }
 
     /// Equal groups with memory of their own, and room for no more.
@@ -75,6 +71,27 @@ impl GroupMap {
         Ok(GroupMap {
             items: copy_items(alloc, &self.items)?,
         })
+    }
+
+    /// Copies the groups of these rows in place of its own.
+    pub(crate) fn copy_rows(
+        &mut self,
+        alloc: Global,
+        hasher: RandomState,
+        rows: &[GroupRow],
+    ) -> Result<(), NoMemory>
+        ensures { OnOk result (self.new.groups ≡ with_rows finite.empty rows.now) }
+    {
+        *self = GroupMap::of(alloc, hasher, rows)?;
+        Ok(())
+    }
+
+    /// Copies other groups in place of its own.
+    pub(crate) fn copy_from(&mut self, alloc: Global, other: &GroupMap) -> Result<(), NoMemory>
+        ensures { OnOk result (self.new.groups ≡ other.now.groups) }
+    {
+        *self = other.copy(alloc)?;
+        Ok(())
     }
 
     /// The names of the groups, in the order of their bytes.
@@ -208,15 +225,48 @@ fn copy_items(alloc: Global, items: &Hashed) -> Result<Hashed, NoMemory>
 {
     let mut made = IndexMap::with_capacity_and_hasher(alloc, items.len(), *items.hasher())?;
     for (name, group) in items {
-        add(&mut made, name.copy(alloc)?, group.copy(alloc)?)?;
+        add_copy(alloc, name, group, &mut made)?;
     }
     Ok(made)
+}
+
+fn add_copy(alloc: Global, name: &Text, group: &Group, made: &mut Hashed) -> Result<(), NoMemory>
+    ensures { OnOk result (groups_seen made.new.entries ≡ finite.insert (groups_seen made.old.entries) name.now group.now.members) }
+{
+    let name = name.copy(alloc)?;
+    add(made, name, group.copy(alloc)?)
+}
+
+fn add_rows(
+    alloc: Global,
+    hasher: RandomState,
+    rows: &[GroupRow],
+    items: &mut Hashed,
+) -> Result<(), NoMemory>
+    ensures { OnOk result (groups_seen items.new.entries ≡ with_rows (groups_seen items.old.entries) rows.now) }
+{
+    for row in rows {
+        add_row(alloc, hasher, row, items)?;
+    }
+    Ok(())
+}
+
+fn add_row(
+    alloc: Global,
+    hasher: RandomState,
+    row: &GroupRow,
+    items: &mut Hashed,
+) -> Result<(), NoMemory>
+    ensures { OnOk result (groups_seen items.new.entries ≡ finite.insert (groups_seen items.old.entries) row.now.name (members_in row.now)) }
+{
+    let name = row.name.as_text().copy(alloc)?;
+    add(items, name, Group::of(alloc, hasher, row)?)
 }
 
 fn add(items: &mut Hashed, name: Text, group: Group) -> Result<(), NoMemory>
     ensures { OnOk result (groups_seen items.new.entries ≡ finite.insert (groups_seen items.old.entries) name group.members) }
 {
-    items.insert(name, group)?;
+    drop(items.insert(name, group)?);
     Ok(())
 }
 
@@ -234,5 +284,5 @@ fn take(items: &mut Hashed, name: &Text)
     ensures rooms { rooms_seen items.new.entries ≡ finite.remove (rooms_seen items.old.entries) name.now }
     ensures spare { spare items.old ≤ spare items.new }
 {
-    let _ = items.swap_remove(name);
+    drop(items.swap_remove(name));
 }

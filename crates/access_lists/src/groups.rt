@@ -92,8 +92,8 @@ impl Groups {
         ensures membership { OnOk result (self.new.membership ≡ with_groups (finite.insert self.old.membership.groups name.now no_members) self.old.membership) }
         ensures spare { self.old.spare ≤ self.new.spare + 1 }
     {
-        let group = Group::with(alloc, hasher, &[], &[], &[])?;
-        self.put_group(Text::from_str(alloc, name)?, group);
+        let name = Text::from_str(alloc, name)?;
+        self.put_group(name, Group::none(alloc, hasher));
         Ok(())
     }
 
@@ -101,22 +101,40 @@ impl Groups {
     pub fn build(alloc: Global, hasher: RandomState, lists: &GroupLists) -> Result<Groups, NoMemory>
         ensures { IfOk result (λ groups. groups.membership ≡ membership_in lists.now) }
     {
-        Ok(Groups {
-            users: NameSet::of(alloc, hasher, &lists.users)?,
-            clients: NameSet::of(alloc, hasher, &lists.clients)?,
-            groups: GroupMap::of(alloc, hasher, lists.groups.as_slice())?,
-        })
+        let mut groups = Groups::none(alloc, hasher);
+        groups.copy_lists(alloc, hasher, lists).and(Ok(groups))
     }
 
     /// Equal users, clients and groups with memory of their own, and room for no more.
     pub fn copy(&self, alloc: Global) -> Result<Groups, NoMemory>
         ensures { IfOk result (λ groups. groups.membership ≡ self.now.membership) }
     {
-        Ok(Groups {
-            users: self.users.copy(alloc)?,
-            clients: self.clients.copy(alloc)?,
-            groups: self.groups.copy(alloc)?,
-        })
+        let mut groups = Groups::none(alloc, self.users.hasher());
+        groups.copy_from(alloc, self).and(Ok(groups))
+    }
+
+    // Copies what the lists say in place of its own.
+    fn copy_lists(
+        &mut self,
+        alloc: Global,
+        hasher: RandomState,
+        lists: &GroupLists,
+    ) -> Result<(), NoMemory>
+        ensures { OnOk result (self.new.membership ≡ membership_in lists.now) }
+    {
+        self.users.copy_list(alloc, hasher, &lists.users)?;
+        self.clients.copy_list(alloc, hasher, &lists.clients)?;
+        self.groups
+            .copy_rows(alloc, hasher, lists.groups.as_slice())
+    }
+
+    // Copies the users, clients and groups of another in place of its own.
+    fn copy_from(&mut self, alloc: Global, other: &Groups) -> Result<(), NoMemory>
+        ensures { OnOk result (self.new.membership ≡ other.now.membership) }
+    {
+        self.users.copy_from(alloc, &other.users)?;
+        self.clients.copy_from(alloc, &other.clients)?;
+        self.groups.copy_from(alloc, &other.groups)
     }
 
     /// The names of the users, of the clients or of the groups, in the order of their bytes.
@@ -210,8 +228,7 @@ impl Groups {
     {
         self.users.reserve(count)?;
         self.clients.reserve(count)?;
-        self.groups.reserve(count)?;
-        Ok(())
+        self.groups.reserve(count)
     }
 
     /// Makes room in a group, where it is there, for at least `count` further members of each kind.

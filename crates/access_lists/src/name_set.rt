@@ -7,7 +7,7 @@ ghost use Rattle.access_lists.specs.MemberNames.{listed_names};
 ghost use Rattle.access_lists.specs.NameSets.{seen};
 
 use crate::text_set::TextSet;
-use doc_tree::{Names, NoMemory, Text, Texts};
+use doc_tree::{Name, Names, NoMemory, Text, Texts};
 use indexmap::IndexSet;
 use std::alloc::Global;
 use std::hash::RandomState;
@@ -50,10 +50,7 @@ impl NameSet {
         ensures { IfOk result (λ s. s.names ≡ set.from_list names.now) }
     {
         let mut items = IndexSet::with_capacity_and_hasher(alloc, names.len(), hasher)?;
-        for name in names.as_slice() {
-            add(&mut items, name.as_text().copy(alloc)?)?;
-        }
-        Ok(NameSet { items })
+        add_names(alloc, names.as_slice(), &mut items).and(Ok(NameSet { items }))
     }
 
     /// The set of copies of some texts.
@@ -65,10 +62,7 @@ impl NameSet {
         ensures { IfOk result (λ s. s.names ≡ set.from_list names.now) }
     {
         let mut items = IndexSet::with_capacity_and_hasher(alloc, names.len(), hasher)?;
-        for name in names {
-            add(&mut items, name.copy(alloc)?)?;
-        }
-        Ok(NameSet { items })
+        add_texts(alloc, names, &mut items).and(Ok(NameSet { items }))
     }
 
     /// An equal set with memory of its own, and room for no more.
@@ -76,6 +70,45 @@ impl NameSet {
         ensures { IfOk result (λ s. s.names ≡ self.now.names) }
     {
         NameSet::with(alloc, *self.items.hasher(), self.items.as_slice())
+    }
+
+    /// Copies the names of a list in place of its own.
+    pub(crate) fn copy_list(
+        &mut self,
+        alloc: Global,
+        hasher: RandomState,
+        names: &Names,
+    ) -> Result<(), NoMemory>
+        ensures { OnOk result (self.new.names ≡ set.from_list names.now) }
+    {
+        *self = NameSet::of(alloc, hasher, names)?;
+        Ok(())
+    }
+
+    /// Copies some texts in place of its own names.
+    pub(crate) fn copy_texts(
+        &mut self,
+        alloc: Global,
+        hasher: RandomState,
+        names: &[Text],
+    ) -> Result<(), NoMemory>
+        ensures { OnOk result (self.new.names ≡ set.from_list names.now) }
+    {
+        *self = NameSet::with(alloc, hasher, names)?;
+        Ok(())
+    }
+
+    /// Copies the names of another set in place of its own.
+    pub(crate) fn copy_from(&mut self, alloc: Global, other: &NameSet) -> Result<(), NoMemory>
+        ensures { OnOk result (self.new.names ≡ other.now.names) }
+    {
+        *self = other.copy(alloc)?;
+        Ok(())
+    }
+
+    /// What hashes its names.
+    pub(crate) fn hasher(&self) -> RandomState {
+        *self.items.hasher()
     }
 
     /// The names, in the order of their bytes.
@@ -119,6 +152,26 @@ impl NameSet {
     {
         take(&mut self.items, name);
     }
+}
+
+fn add_names(alloc: Global, names: &[Name], items: &mut Hashed) -> Result<(), NoMemory>
+    requires { seen items.old.keys ≡ set.empty }
+    ensures { OnOk result (seen items.new.keys ≡ set.from_list names.now) }
+{
+    for name in names {
+        add(items, name.as_text().copy(alloc)?)?;
+    }
+    Ok(())
+}
+
+fn add_texts(alloc: Global, names: &[Text], items: &mut Hashed) -> Result<(), NoMemory>
+    requires { seen items.old.keys ≡ set.empty }
+    ensures { OnOk result (seen items.new.keys ≡ set.from_list names.now) }
+{
+    for name in names {
+        add(items, name.copy(alloc)?)?;
+    }
+    Ok(())
 }
 
 fn add(items: &mut Hashed, name: Text) -> Result<(), NoMemory>

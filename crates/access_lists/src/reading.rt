@@ -200,19 +200,31 @@ impl SentEntry<'_> {
             groups: texts_among(alloc, self.groups)?,
         })
     }
+
+    fn read_to(&self, alloc: Global, entry: &mut Entry) -> Result<(), NoMemory>
+        ensures { OnOk result (entry.new ≡ entry_sent self.now) }
+    {
+        *entry = self.read(alloc)?;
+        Ok(())
+    }
 }
 
 impl SentAcl<'_> {
     fn read(&self, alloc: Global) -> Result<Acl, NoMemory>
         ensures { IfOk result (λ acl. acl ≡ acl_sent self.now) }
     {
-        Ok(Acl {
-            create: self.create.read(alloc)?,
-            read: self.read.read(alloc)?,
-            update: self.update.read(alloc)?,
-            delete: self.delete.read(alloc)?,
-            grant: self.grant.read(alloc)?,
-        })
+        let mut acl = Acl::none(alloc);
+        self.read_entries(alloc, &mut acl).and(Ok(acl))
+    }
+
+    fn read_entries(&self, alloc: Global, acl: &mut Acl) -> Result<(), NoMemory>
+        ensures { OnOk result (acl.new ≡ acl_sent self.now) }
+    {
+        self.create.read_to(alloc, &mut acl.create)?;
+        self.read.read_to(alloc, &mut acl.read)?;
+        self.update.read_to(alloc, &mut acl.update)?;
+        self.delete.read_to(alloc, &mut acl.delete)?;
+        self.grant.read_to(alloc, &mut acl.grant)
     }
 }
 

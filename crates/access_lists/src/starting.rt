@@ -136,13 +136,32 @@ fn granting(
 ) -> Result<Acl, NoMemory>
     ensures { IfOk result (λ acl. acl ≡ spec.granting (listed create) (listed read) (listed update) (listed delete) spec.A) }
 {
-    Ok(Acl {
-        create: entry_of(alloc, create)?,
-        read: entry_of(alloc, read)?,
-        update: entry_of(alloc, update)?,
-        delete: entry_of(alloc, delete)?,
-        grant: entry_of(alloc, Listed::A)?,
-    })
+    let mut acl = Acl::none(alloc);
+    grant_each(alloc, create, read, update, delete, &mut acl).and(Ok(acl))
+}
+
+fn grant_each(
+    alloc: Global,
+    create: Listed,
+    read: Listed,
+    update: Listed,
+    delete: Listed,
+    acl: &mut Acl,
+) -> Result<(), NoMemory>
+    ensures { OnOk result (acl.new ≡ spec.granting (listed create) (listed read) (listed update) (listed delete) spec.A) }
+{
+    grant(alloc, create, &mut acl.create)?;
+    grant(alloc, read, &mut acl.read)?;
+    grant(alloc, update, &mut acl.update)?;
+    grant(alloc, delete, &mut acl.delete)?;
+    grant(alloc, Listed::A, &mut acl.grant)
+}
+
+fn grant(alloc: Global, groups: Listed, entry: &mut Entry) -> Result<(), NoMemory>
+    ensures { OnOk result (entry.new ≡ spec.of_groups (listed groups)) }
+{
+    *entry = entry_of(alloc, groups)?;
+    Ok(())
 }
 
 /// An entry of groups alone.

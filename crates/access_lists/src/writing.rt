@@ -1,8 +1,9 @@
 //! Access lists as documents.
-ghost use Rattle.std.specs.Prelude.{◌≡◌, ◌++◌, IfOk, OnOk, map};
-ghost use Rattle.doc_tree.specs.Doc.{words};
+ghost use Rattle.std.specs.Prelude.{◌≡◌, [], IfOk, OnOk};
+ghost use Rattle.doc_tree.specs.Doc.{dict, pairs_of};
 ghost use Rattle.doc_tree.specs.Part.{with_pair};
 ghost use Rattle.doc_tree.specs.Tree.{doc_of};
+ghost use Rattle.access_lists.specs.Acls.{word_of};
 ghost use Rattle.access_lists.specs.Forms as spec;
 
 use crate::acl::{Acl, Entry};
@@ -18,46 +19,39 @@ pub fn acl_tree(alloc: Global, acl: &Acl) -> Result<Tree, NoMemory>
     ensures { IfOk result (λ tree. doc_of tree ≡ spec.acl_doc acl.now) }
 {
     let mut fields = Fields::with_capacity(alloc, 5)?;
-    put(
-        alloc,
-        &mut fields,
-        Perm::Create.word(),
-        entry_tree(alloc, &acl.create)?,
-    )?;
-    put(
-        alloc,
-        &mut fields,
-        Perm::Delete.word(),
-        entry_tree(alloc, &acl.delete)?,
-    )?;
-    put(
-        alloc,
-        &mut fields,
-        Perm::Grant.word(),
-        entry_tree(alloc, &acl.grant)?,
-    )?;
-    put(
-        alloc,
-        &mut fields,
-        Perm::Read.word(),
-        entry_tree(alloc, &acl.read)?,
-    )?;
-    put(
-        alloc,
-        &mut fields,
-        Perm::Update.word(),
-        entry_tree(alloc, &acl.update)?,
-    )?;
-    Ok(Tree::Dict(fields))
+    put_entries(alloc, acl, &mut fields).and(Ok(Tree::Dict(fields)))
+}
+
+fn put_entries(alloc: Global, acl: &Acl, fields: &mut Fields) -> Result<(), NoMemory>
+    requires { fields.old ≡ [] }
+    ensures { OnOk result (dict (pairs_of fields.new) ≡ spec.acl_doc acl.now) }
+{
+    put_entry(alloc, fields, Perm::Create, &acl.create)?;
+    put_entry(alloc, fields, Perm::Delete, &acl.delete)?;
+    put_entry(alloc, fields, Perm::Grant, &acl.grant)?;
+    put_entry(alloc, fields, Perm::Read, &acl.read)?;
+    put_entry(alloc, fields, Perm::Update, &acl.update)
+}
+
+fn put_entry(alloc: Global, fields: &mut Fields, perm: Perm, entry: &Entry) -> Result<(), NoMemory>
+    ensures { OnOk result (fields.new ≡ with_pair (word_of perm) (spec.entry_doc entry.now) fields.old) }
+{
+    put(alloc, fields, perm.word(), entry_tree(alloc, entry)?)
 }
 
 fn entry_tree(alloc: Global, entry: &Entry) -> Result<Tree, NoMemory>
     ensures { IfOk result (λ tree. doc_of tree ≡ spec.entry_doc entry.now) }
 {
     let mut fields = Fields::with_capacity(alloc, 2)?;
-    put(alloc, &mut fields, "actors", entry.actors.tree(alloc)?)?;
-    put(alloc, &mut fields, "groups", entry.groups.tree(alloc)?)?;
-    Ok(Tree::Dict(fields))
+    put_lists(alloc, entry, &mut fields).and(Ok(Tree::Dict(fields)))
+}
+
+fn put_lists(alloc: Global, entry: &Entry, fields: &mut Fields) -> Result<(), NoMemory>
+    requires { fields.old ≡ [] }
+    ensures { OnOk result (dict (pairs_of fields.new) ≡ spec.entry_doc entry.now) }
+{
+    put(alloc, fields, "actors", entry.actors.tree(alloc)?)?;
+    put(alloc, fields, "groups", entry.groups.tree(alloc)?)
 }
 
 impl TextSet {

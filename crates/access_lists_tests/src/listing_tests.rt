@@ -34,12 +34,23 @@ members guests group ->
 names group -> admins guests ops team users
 ";
 
-fn add_names(told: &mut String, names: Texts) -> Result<(), NoMemory> {
+fn add_names(told: &mut String, names: &Texts) -> Result<(), NoMemory> {
     for name in names.as_slice() {
         told.push_str(" ")?;
         told.push_str(name.as_str())?;
     }
     Ok(())
+}
+
+// `names KIND`
+fn add_kind(
+    alloc: Global,
+    told: &mut String,
+    groups: &Groups,
+    kind: MemberKind,
+) -> Result<(), NoMemory> {
+    let names = groups.names(alloc, kind)?;
+    add_names(told, &names)
 }
 
 // `members GROUP KIND`
@@ -51,7 +62,8 @@ fn add_members(
 ) -> Result<(), NoMemory> {
     let (group, kind) = first_word(whose);
     let group = Text::from_str(alloc, group)?;
-    add_names(told, groups.members(alloc, &group, kind_of(kind))?)
+    let members = groups.members(alloc, &group, kind_of(kind))?;
+    add_names(told, &members)
 }
 
 fn texts(alloc: Global, words: &str) -> Result<Vec<Text>, NoMemory> {
@@ -111,30 +123,39 @@ fn add_listed(
         _ => told.push_str(" ->")?,
     }
     match verb {
-        "names" => add_names(told, groups.names(alloc, kind_of(rest))?),
+        "names" => add_kind(alloc, told, groups, kind_of(rest)),
         _ => add_members(alloc, told, groups, rest),
     }
 }
 
-fn listed(alloc: Global, hasher: RandomState, groups: &mut Groups) -> Result<String, NoMemory> {
-    let mut told = String::new(alloc);
+fn add_all_listed(
+    alloc: Global,
+    hasher: RandomState,
+    told: &mut String,
+    groups: &mut Groups,
+) -> Result<(), NoMemory> {
     for row in LISTED.lines() {
-        let asked = asked(row);
-        told.push_str(asked)?;
-        add_listed(alloc, hasher, &mut told, groups, asked)?;
+        told.push_str(asked(row))?;
+        add_listed(alloc, hasher, told, groups, asked(row))?;
         told.push_str("\n")?;
     }
+    Ok(())
+}
+
+fn listed(alloc: Global, hasher: RandomState, groups: &mut Groups) -> Result<String, NoMemory> {
+    let mut told = String::new(alloc);
+    add_all_listed(alloc, hasher, &mut told, groups)?;
     Ok(told)
 }
 
-fn copied(alloc: Global, hasher: RandomState) -> Result<Groups, NoMemory> {
-    let groups = organisation(alloc, hasher)?;
-    groups.copy(alloc)
+fn copy_listed(alloc: Global, hasher: RandomState, groups: &Groups) -> Result<String, NoMemory> {
+    let mut copy = groups.copy(alloc)?;
+    listed(alloc, hasher, &mut copy)
 }
 
 fn listed_told(alloc: Global, hasher: RandomState) -> Result<String, NoMemory> {
-    let mut groups = copied(alloc, hasher)?;
-    listed(alloc, hasher, &mut groups)
+    let groups = organisation(alloc, hasher)?;
+    copy_listed(alloc, hasher, &groups)
 }
 
 #[test]
@@ -144,16 +165,29 @@ fn members_are_listed_and_leave_every_group(rt: HostRuntime) -> Result<(), Fail>
     Ok(())
 }
 
-// The groups of a new organisation and the users of one, and which of some names start.
-fn starting_told(alloc: Global, hasher: RandomState) -> Result<String, NoMemory> {
-    let groups = Groups::starting(alloc, hasher)?;
-    let mut told = String::new(alloc);
-    add_names(&mut told, groups.names(alloc, MemberKind::Group)?)?;
-    add_members(alloc, &mut told, &groups, "admins user")?;
+fn add_starters(told: &mut String) -> Result<(), NoMemory> {
     for name in "admins admin billing-admins clients users public".split_whitespace() {
         told.push_str(yes_or_no(is_starting_group(name)))?;
     }
+    Ok(())
+}
+
+// The groups of an organisation and the users of one, and which of some names start.
+fn add_start(alloc: Global, told: &mut String, groups: &Groups) -> Result<(), NoMemory> {
+    add_kind(alloc, told, groups, MemberKind::Group)?;
+    add_members(alloc, told, groups, "admins user")?;
+    add_starters(told)
+}
+
+fn start(alloc: Global, groups: &Groups) -> Result<String, NoMemory> {
+    let mut told = String::new(alloc);
+    add_start(alloc, &mut told, groups)?;
     Ok(told)
+}
+
+fn starting_told(alloc: Global, hasher: RandomState) -> Result<String, NoMemory> {
+    let groups = Groups::starting(alloc, hasher)?;
+    start(alloc, &groups)
 }
 
 #[test]

@@ -10,14 +10,18 @@ use std::alloc::Global;
 use std::hash::RandomState;
 use std::test::Fail;
 
-fn names(alloc: Global, words: &str) -> Result<Names, NoMemory> {
-    let mut names = Names::new(alloc);
-    for word in words.split_whitespace() {
-        if let Ok(name) = Name::of(Text::from_str(alloc, word)?) {
-            names.push(name)?;
-        }
+fn add_name(alloc: Global, names: &mut Names, word: &str) -> Result<(), NoMemory> {
+    match Name::of(Text::from_str(alloc, word)?) {
+        Ok(name) => names.push(name),
+        Err(_) => Ok(()),
     }
-    Ok(names)
+}
+
+fn add_names(alloc: Global, names: &mut Names, words: &str) -> Result<(), NoMemory> {
+    for word in words.split_whitespace() {
+        add_name(alloc, names, word)?;
+    }
+    Ok(())
 }
 
 // The parts of a text before and behind its first slash.
@@ -28,32 +32,41 @@ fn halves(text: &str) -> (&str, &str) {
     }
 }
 
-// A group with its members, told as users, clients and groups.
-fn group_row(alloc: Global, name: Name, members: &str) -> Result<GroupRow, NoMemory> {
+fn add_members(alloc: Global, row: &mut GroupRow, members: &str) -> Result<(), NoMemory> {
     let (users, others) = halves(members);
     let (clients, groups) = halves(others);
-    Ok(GroupRow {
+    add_names(alloc, &mut row.users, users)?;
+    add_names(alloc, &mut row.clients, clients)?;
+    add_names(alloc, &mut row.groups, groups)
+}
+
+// A group with its members, told as users, clients and groups.
+fn group_row(alloc: Global, name: Name, members: &str) -> Result<GroupRow, NoMemory> {
+    let mut row = GroupRow {
         name,
-        users: names(alloc, users)?,
-        clients: names(alloc, clients)?,
-        groups: names(alloc, groups)?,
-    })
+        users: Names::new(alloc),
+        clients: Names::new(alloc),
+        groups: Names::new(alloc),
+    };
+    add_members(alloc, &mut row, members)?;
+    Ok(row)
 }
 
 fn add_row(alloc: Global, rows: &mut GroupRows, row: &str) -> Result<(), NoMemory> {
     let (word, members) = first_word(row);
-    if let Ok(name) = Name::of(Text::from_str(alloc, word)?) {
-        rows.push(group_row(alloc, name, members)?)?;
+    match Name::of(Text::from_str(alloc, word)?) {
+        Ok(name) => rows.push(group_row(alloc, name, members)?),
+        Err(_) => Ok(()),
     }
-    Ok(())
 }
 
-fn group_rows(alloc: Global) -> Result<GroupRows, NoMemory> {
-    let mut rows = GroupRows::new(alloc);
+fn add_lists(alloc: Global, lists: &mut GroupLists) -> Result<(), NoMemory> {
+    add_names(alloc, &mut lists.users, "ann anna bob cat dora")?;
+    add_names(alloc, &mut lists.clients, "web1 web10")?;
     for row in GROUPS.lines() {
-        add_row(alloc, &mut rows, row)?;
+        add_row(alloc, &mut lists.groups, row)?;
     }
-    Ok(rows)
+    Ok(())
 }
 
 // Each group with its users, its clients and the groups within it.
@@ -65,11 +78,12 @@ users ann anna bob//
 ";
 
 pub(crate) fn organisation(alloc: Global, hasher: RandomState) -> Result<Groups, NoMemory> {
-    let lists = GroupLists {
-        users: names(alloc, "ann anna bob cat dora")?,
-        clients: names(alloc, "web1 web10")?,
-        groups: group_rows(alloc)?,
+    let mut lists = GroupLists {
+        users: Names::new(alloc),
+        clients: Names::new(alloc),
+        groups: GroupRows::new(alloc),
     };
+    add_lists(alloc, &mut lists)?;
     Groups::build(alloc, hasher, &lists)
 }
 
@@ -273,6 +287,21 @@ fn answer(
     }
 }
 
+fn add_answers(
+    alloc: Global,
+    hasher: RandomState,
+    told: &mut String,
+    groups: &mut Groups,
+    acl: &Acl,
+) -> Result<(), NoMemory> {
+    for row in WHO_MAY.lines() {
+        told.push_str(asked(row))?;
+        told.push_str(answer(alloc, hasher, groups, acl, asked(row))?)?;
+        told.push_str("\n")?;
+    }
+    Ok(())
+}
+
 fn answers(
     alloc: Global,
     hasher: RandomState,
@@ -280,12 +309,7 @@ fn answers(
     acl: &Acl,
 ) -> Result<String, NoMemory> {
     let mut told = String::new(alloc);
-    for row in WHO_MAY.lines() {
-        let asked = asked(row);
-        told.push_str(asked)?;
-        told.push_str(answer(alloc, hasher, groups, acl, asked)?)?;
-        told.push_str("\n")?;
-    }
+    add_answers(alloc, hasher, &mut told, groups, acl)?;
     Ok(told)
 }
 

@@ -29,13 +29,11 @@ fn name_at(texts: &TextSet, position: usize) -> &str {
 }
 
 fn add_stranger(told: &mut String, groups: &Groups, entry: &Entry) -> Result<(), NoMemory> {
-    let (kind, name) = match groups.stranger(entry) {
-        Some(Stranger::Actor(position)) => (" actor ", name_at(&entry.actors, position)),
-        Some(Stranger::Group(position)) => (" group ", name_at(&entry.groups, position)),
-        None => (" none", ""),
-    };
-    told.push_str(kind)?;
-    told.push_str(name)?;
+    match groups.stranger(entry) {
+        Some(Stranger::Actor(at)) => write!(told, " actor {}", name_at(&entry.actors, at))?,
+        Some(Stranger::Group(at)) => write!(told, " group {}", name_at(&entry.groups, at))?,
+        None => told.push_str(" none")?,
+    }
     Ok(())
 }
 
@@ -58,15 +56,18 @@ fn add_stranger_of(
     }
 }
 
-fn strangers(alloc: Global, groups: &Groups) -> Result<String, NoMemory> {
-    let mut told = String::new(alloc);
+fn add_strangers(alloc: Global, told: &mut String, groups: &Groups) -> Result<(), NoMemory> {
     for row in STRANGERS.lines() {
-        let asked = asked(row);
-        told.push_str(asked)?;
-        told.push_str(" ->")?;
-        add_stranger_of(alloc, &mut told, groups, asked)?;
+        write!(told, "{} ->", asked(row))?;
+        add_stranger_of(alloc, told, groups, asked(row))?;
         told.push_str("\n")?;
     }
+    Ok(())
+}
+
+fn strangers(alloc: Global, groups: &Groups) -> Result<String, NoMemory> {
+    let mut told = String::new(alloc);
+    add_strangers(alloc, &mut told, groups)?;
     Ok(told)
 }
 
@@ -84,15 +85,17 @@ fn the_first_stranger_is_told(rt: HostRuntime) -> Result<(), Fail> {
 
 // A document in which an entry for reading stands between other text, with the actors `m1000` to `m1`
 // and then `m1` again.
-fn body_of_many(alloc: Global, front: &str, back: &str) -> Result<String, NoMemory> {
-    let mut body = String::from_str(alloc, front)?;
-    body.push_str(r#""read":{"groups":[],"actors":["#)?;
+fn add_body_of_many(body: &mut String, front: &str, back: &str) -> Result<(), NoMemory> {
+    write!(body, r#"{front}"read":{{"groups":[],"actors":["#)?;
     for position in 0..1000usize {
-        let number = 1000usize.saturating_sub(position);
-        body.push_str(format!(in alloc; "\"m{number}\",")?.as_str())?;
+        write!(body, "\"m{}\",", 1000usize.saturating_sub(position))?;
     }
-    body.push_str("\"m1\"]}")?;
-    body.push_str(back)?;
+    Ok(write!(body, "\"m1\"]}}{back}")?)
+}
+
+fn body_of_many(alloc: Global, front: &str, back: &str) -> Result<String, NoMemory> {
+    let mut body = String::new(alloc);
+    add_body_of_many(&mut body, front, back)?;
     Ok(body)
 }
 

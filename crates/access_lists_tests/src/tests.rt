@@ -50,9 +50,9 @@ fn add_entry(told: &mut String, entry: &Entry) -> Result<(), NoMemory> {
     add_texts(told, &entry.groups)
 }
 
-fn add_read(told: &mut String, read: Result<Entry, AclFault>) -> Result<(), NoMemory> {
+fn add_read(told: &mut String, read: &Result<Entry, AclFault>) -> Result<(), NoMemory> {
     match read {
-        Ok(entry) => add_entry(told, &entry),
+        Ok(entry) => add_entry(told, entry),
         Err(AclFault::NotAnAcl) => Ok(told.push_str(" refused")?),
         Err(AclFault::NoMemory) => Err(NoMemory),
     }
@@ -60,7 +60,7 @@ fn add_read(told: &mut String, read: Result<Entry, AclFault>) -> Result<(), NoMe
 
 fn add_body(alloc: Global, told: &mut String, perm: Perm, body: &str) -> Result<(), NoMemory> {
     match read_json(alloc, body.as_bytes()) {
-        Ok(tree) => add_read(told, read_acl(alloc, &tree, perm)),
+        Ok(tree) => add_read(told, &read_acl(alloc, &tree, perm)),
         Err(_) => Ok(told.push_str(" no JSON")?),
     }
 }
@@ -88,15 +88,17 @@ read {} -> refused
 read null -> refused
 "#;
 
+fn add_row(alloc: Global, told: &mut String, asked: &str) -> Result<(), NoMemory> {
+    let (word, body) = first_word(asked);
+    write!(told, "{asked} ->")?;
+    add_body(alloc, told, perm_of(word), body)?;
+    Ok(told.push_str("\n")?)
+}
+
 fn bodies(alloc: Global) -> Result<String, NoMemory> {
     let mut told = String::new(alloc);
     for row in BODIES.lines() {
-        let asked = asked(row);
-        let (word, body) = first_word(asked);
-        told.push_str(asked)?;
-        told.push_str(" ->")?;
-        add_body(alloc, &mut told, perm_of(word), body)?;
-        told.push_str("\n")?;
+        add_row(alloc, &mut told, asked(row))?;
     }
     Ok(told)
 }
@@ -138,9 +140,9 @@ fn add_acl(told: &mut String, acl: &Acl) -> Result<(), NoMemory> {
     Ok(())
 }
 
-fn add_whole(told: &mut String, read: Result<Acl, AclFault>) -> Result<(), NoMemory> {
+fn add_whole(told: &mut String, read: &Result<Acl, AclFault>) -> Result<(), NoMemory> {
     match read {
-        Ok(acl) => add_acl(told, &acl),
+        Ok(acl) => add_acl(told, acl),
         Err(AclFault::NotAnAcl) => Ok(told.push_str(" refused")?),
         Err(AclFault::NoMemory) => Err(NoMemory),
     }
@@ -148,7 +150,8 @@ fn add_whole(told: &mut String, read: Result<Acl, AclFault>) -> Result<(), NoMem
 
 // The list that the document of a list is read as.
 fn back(alloc: Global, acl: &Acl) -> Result<Acl, AclFault> {
-    whole_acl(alloc, &acl_tree(alloc, acl)?)
+    let tree = acl_tree(alloc, acl)?;
+    whole_acl(alloc, &tree)
 }
 
 fn without_actor(alloc: Global, acl: &Acl, name: &Text) -> Result<Acl, AclFault> {
@@ -193,14 +196,16 @@ body {"read":{"actors":[],"groups":[]}} -> refused
 body [] -> refused
 "#;
 
+fn add_made(alloc: Global, told: &mut String, acl: &Acl, asked: &str) -> Result<(), NoMemory> {
+    write!(told, "{asked} ->")?;
+    add_whole(told, &made(alloc, acl, asked))?;
+    Ok(told.push_str("\n")?)
+}
+
 fn whole(alloc: Global, acl: &Acl) -> Result<String, NoMemory> {
     let mut told = String::new(alloc);
     for row in WHOLE.lines() {
-        let asked = asked(row);
-        told.push_str(asked)?;
-        told.push_str(" ->")?;
-        add_whole(&mut told, made(alloc, acl, asked))?;
-        told.push_str("\n")?;
+        add_made(alloc, &mut told, acl, asked(row))?;
     }
     Ok(told)
 }
@@ -215,9 +220,14 @@ fn whole_told(alloc: Global) -> Result<String, NoMemory> {
 // The text of the document of the list `ACL`.
 fn whole_text(alloc: Global) -> Result<Bytes, NoMemory> {
     match acl_of(alloc, ACL) {
-        Ok(acl) => json_text(alloc, &acl_tree(alloc, &acl)?),
+        Ok(acl) => text_of(alloc, &acl),
         Err(_) => Err(NoMemory),
     }
+}
+
+fn text_of(alloc: Global, acl: &Acl) -> Result<Bytes, NoMemory> {
+    let tree = acl_tree(alloc, acl)?;
+    json_text(alloc, &tree)
 }
 
 #[test]
@@ -242,18 +252,39 @@ pub(crate) fn yes_or_no(yes: bool) -> &'static str {
     if yes { " yes" } else { " no" }
 }
 
+fn add_with(alloc: Global, told: &mut String, set: &TextSet, text: &Text) -> Result<(), NoMemory> {
+    let more = set.with(alloc, text)?;
+    add_texts(told, &more)
+}
+
+fn add_without(
+    alloc: Global,
+    told: &mut String,
+    set: &TextSet,
+    text: &Text,
+) -> Result<(), NoMemory> {
+    let mut less = set.copy(alloc)?;
+    less.take_out(text);
+    add_texts(told, &less)
+}
+
+fn add_set_and(
+    alloc: Global,
+    told: &mut String,
+    set: &TextSet,
+    text: &Text,
+) -> Result<(), NoMemory> {
+    add_texts(told, set)?;
+    let (empty, has) = (yes_or_no(set.is_empty()), yes_or_no(set.contains(text)));
+    write!(told, ",{empty}{has},")?;
+    add_with(alloc, told, set, text)?;
+    told.push_str(",")?;
+    add_without(alloc, told, set, text)
+}
+
 fn add_set(alloc: Global, told: &mut String, set: &TextSet) -> Result<(), NoMemory> {
     let c = Text::from_str(alloc, "c")?;
-    add_texts(told, set)?;
-    told.push_str(",")?;
-    told.push_str(yes_or_no(set.is_empty()))?;
-    told.push_str(yes_or_no(set.contains(&c)))?;
-    told.push_str(",")?;
-    add_texts(told, &set.with(alloc, &c)?)?;
-    told.push_str(",")?;
-    let mut less = set.copy(alloc)?;
-    less.take_out(&c);
-    add_texts(told, &less)
+    add_set_and(alloc, told, set, &c)
 }
 
 // The set that the list of a set's texts is read as.
@@ -283,14 +314,16 @@ const SETS: &str = r#"["d","b","d"] -> b d, no no, b c d, b d
 null -> none
 "#;
 
+fn add_set_row(alloc: Global, told: &mut String, asked: &str) -> Result<(), NoMemory> {
+    write!(told, "{asked} ->")?;
+    add_set_of(alloc, told, asked)?;
+    Ok(told.push_str("\n")?)
+}
+
 fn sets(alloc: Global) -> Result<String, NoMemory> {
     let mut told = String::new(alloc);
     for row in SETS.lines() {
-        let asked = asked(row);
-        told.push_str(asked)?;
-        told.push_str(" ->")?;
-        add_set_of(alloc, &mut told, asked)?;
-        told.push_str("\n")?;
+        add_set_row(alloc, &mut told, asked(row))?;
     }
     Ok(told)
 }
@@ -303,11 +336,8 @@ fn texts_are_sets(rt: HostRuntime) -> Result<(), Fail> {
     Ok(())
 }
 
-// A container, and the groups that may create, read, update, delete and grant, by their first letters.
-fn letters(alloc: Global, container: Container) -> Result<String, NoMemory> {
-    let acl = starting_list(alloc, container)?;
-    let mut text = String::from_str(alloc, container.name())?;
-    text.push_str(":")?;
+// The groups that may create, read, update, delete and grant, by their first letters.
+fn add_acl_letters(told: &mut String, acl: &Acl) -> Result<(), NoMemory> {
     for perm in [
         Perm::Create,
         Perm::Read,
@@ -315,12 +345,19 @@ fn letters(alloc: Global, container: Container) -> Result<String, NoMemory> {
         Perm::Delete,
         Perm::Grant,
     ] {
-        text.push_str(" ")?;
+        told.push_str(" ")?;
         for group in acl.entry(perm).groups.as_slice() {
-            text.push_str(letter(group.as_str()))?;
+            told.push_str(letter(group.as_str()))?;
         }
     }
-    Ok(text)
+    Ok(told.push_str("\n")?)
+}
+
+// A container, and the letters of its list.
+fn add_letters(alloc: Global, told: &mut String, container: Container) -> Result<(), NoMemory> {
+    write!(told, "{}:", container.name())?;
+    let acl = starting_list(alloc, container)?;
+    add_acl_letters(told, &acl)
 }
 
 fn letter(group: &str) -> &'static str {
@@ -335,8 +372,7 @@ fn letter(group: &str) -> &'static str {
 fn all_letters(alloc: Global) -> Result<String, NoMemory> {
     let mut told = String::new(alloc);
     for container in Container::all() {
-        told.push_str(letters(alloc, container)?.as_str())?;
-        told.push_str("\n")?;
+        add_letters(alloc, &mut told, container)?;
     }
     Ok(told)
 }

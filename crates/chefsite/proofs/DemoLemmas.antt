@@ -15,8 +15,8 @@ use Rattle.http_wire.specs.Replies.{reply_text}
 use Rattle.http_wire.specs.Requests.{IsReadAt, IsRead}
 use Rattle.org_core.specs.declared.requests.Place.{Place}
 use Rattle.org_core.specs.declared.requests.Place.TheVariants.{Of, Organisations, LeftOut, NoRoute, NoMemory}
-use Rattle.chefsite.specs.declared.shards.Shard.{Shard}
-use Rattle.chefsite.specs.Shards.{states_in, site_states, shard_of}
+use Rattle.site_shards.specs.declared.shards.Shard.{Shard}
+use Rattle.site_shards.specs.Shards.{states_in, site_states, shard_of}
 use Rattle.chefsite.specs.Demonstrating.{outcome_of, outcomes_of, AreCountsOf, IsToldOf, Demonstrating}
 
 -- a request that no bytes spell stands for itself

@@ -1,6 +1,3 @@
-mod IndexLemmas
-mod ShardLemmas
-mod ListingLemmas
 mod AloneLemmas
 mod TurnLemmas
 mod EndingLemmas

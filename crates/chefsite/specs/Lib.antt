@@ -1,9 +1,5 @@
 pub mod Statuses
 pub mod Notes
-pub mod Organisations
-pub mod Indexing
-pub mod Shards
-pub mod Listing
 pub mod Isolation
 pub mod Turns
 pub mod Endings

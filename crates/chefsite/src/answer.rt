@@ -7,11 +7,11 @@ ghost use Rattle.chefsite.specs.Endings.{Says, HasStatusCause, TellsRest, IsComp
 ghost use Rattle.chefsite.specs.Turns.{EndsStream, HasFaultCause};
 
 use crate::answering::{End, answer_all};
-use crate::shards::Shard;
 use crate::statuses::Status;
 use doc_tree::{NoMemory, Steps};
 use http_wire::Room;
 use outside_core::{Buffered, Failed, Sink, Source};
+use site_shards::Shard;
 use std::alloc::Global;
 use std::hash::RandomState;
 use std::sync::ledger::Ledger;

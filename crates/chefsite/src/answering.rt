@@ -11,15 +11,14 @@ ghost use Rattle.http_wire.specs.Message.{BeginsNone, last_place};
 ghost use Rattle.http_wire.specs.Requests.{IsRead};
 ghost use Rattle.http_wire.specs.Replies.{reply_text};
 ghost use Rattle.http_wire.specs.Room.{stream};
-ghost use Rattle.chefsite.specs.Shards.{site_states, IsSite};
+ghost use Rattle.site_shards.specs.Shards.{site_states, IsSite};
 ghost use Rattle.chefsite.specs.Turns.{TakesTurn, EndsTurn, EndsStream, HasFaultCause};
 
-use crate::shards::Shard;
-use crate::site;
 use doc_tree::Steps;
 use http_wire::{Room, WireFault, buffer_reply, read_message};
 use org_machine::Request;
 use outside_core::{Buffered, Failed, Sink, Source};
+use site_shards::{Shard, serve};
 use std::alloc::Global;
 use std::sync::ledger::Ledger;
 
@@ -131,7 +130,7 @@ fn serve_and_write<U: Sink, L: Ledger>(
     ensures dropped { OnErr result (buffer.new.waiting ≡ []) }
     ensures cause { HasCause (U.faults output.old) (U.faults output.new) result }
 {
-    let reply = site::serve(alloc, shards, request, steps);
+    let reply = serve(alloc, shards, request, steps);
     match buffer_reply(buffer, output, &reply) {
         Ok(()) => Ok(()),
         Err(Failed) => Err(End::WriteFault),

@@ -5,17 +5,16 @@ ghost use Rattle.demo_requests.specs.Lines.{Outcome, sums_of};
 ghost use Rattle.org_core.specs.FullStates.{none};
 ghost use Rattle.org_core.specs.declared.replies.Reply as replies;
 ghost use Rattle.org_machine.specs.Serving.{Serves};
-ghost use Rattle.chefsite.specs.Shards.{site_states, IsSite};
+ghost use Rattle.site_shards.specs.Shards.{site_states, IsSite};
 ghost use Rattle.chefsite.specs.Demonstrating.{SaysOfDemo, HasDemoCause, IsToldOf, AreCountsOf, outcome_of};
 
-use crate::shards::Shard;
-use crate::site;
 use crate::statuses::Status;
 use demo_requests::{Counts, Demo};
 use doc_tree::{NoMemory, Steps, Text};
 use http_wire::reply_length;
 use org_machine::Request;
 use outside_core::{Failed, Sink};
+use site_shards::{Shard, serve};
 use std::alloc::Global;
 use std::hash::RandomState;
 use std::sync::ledger::Ledger;
@@ -88,6 +87,6 @@ fn serve_one<L: Ledger>(
     ensures { (reply : replies.Reply) × Serves (site_states shards.old) request reply (site_states shards.new)
         × ((outcomes : List Outcome) → counts.old ≡ sums_of outcomes → counts.new ≡ sums_of (outcomes ++ outcome_of reply ∷ [])) }
 {
-    let reply = site::serve(alloc, shards, request, steps);
+    let reply = serve(alloc, shards, request, steps);
     counts.count(reply.status, reply_length(&reply));
 }

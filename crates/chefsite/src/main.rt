@@ -8,12 +8,7 @@ mod answering;
 mod demo;
 mod explain;
 mod laws;
-mod listing;
-mod names;
 mod notes;
-mod numbers;
-mod shards;
-mod site;
 mod statuses;
 
 ghost use Rattle.std.specs.Prelude.{◌≡◌, ◌⊎◌, ◌↔◌, ◌<◌, ℕ, List, [], Some, IfErr, IfOk, drop, map, string_bytes};

@@ -17,7 +17,7 @@ use Rattle.cookbook_meta.specs.Faults.{then_do, in_field, keep_if}
 use Rattle.cookbook_meta.specs.Fields.{are_as_asked, named_rows, stated_rows}
 use Rattle.cookbook_meta.specs.Manifests.{metadata_of}
 use Rattle.cookbook_meta.specs.Metadata.{stored_metadata}
-use Rattle.cookbook_meta.specs.Outcomes.{Gives}
+use Rattle.cookbook_meta.specs.Outcomes.{Finds, Gives}
 use Rattle.cookbook_meta.specs.Parts.{needed, text_of, truth_of, version_of, version_read, is_identifier}
 use Rattle.cookbook_meta.specs.Segments.{segments, segment_docs, with_segments}
 use Rattle.cookbook_meta.specs.Sound.{IsOf, HasOwnPaths, HasChecksums}
@@ -28,7 +28,7 @@ use Rattle.cookbook_meta.specs.declared.fault.Flaw.TheVariants.{MissingField, Wr
 use Rattle.cookbook_meta.specs.declared.fault.MetaFault.{MetaFault}
 use Rattle.cookbook_meta.specs.declared.manifests.Manifest.{Manifest}
 use Rattle.cookbook_meta.specs.declared.metadata.Metadata.{Metadata}
-use Rattle.cookbook_meta.proofs.DoneLemmas.{same_ok, then_done, field_done, field_is, kept, keeps}
+use Rattle.cookbook_meta.proofs.DoneLemmas.{same_ok, then_done, then_is, field_done, field_is, kept, keeps}
 use Rattle.cookbook_meta.proofs.MetadataLemmas.{metadata_again, stored_metadata-twice}
 use Rattle.cookbook_meta.proofs.PutLemmas.{at_own, beside-puts, beside-twice}
 use Rattle.cookbook_meta.proofs.ReadBackLemmas.{named_again, rows_again}
@@ -112,6 +112,27 @@ IsRead name id body m = Done (version_step body) (frozen_step body) (metadata_st
 read_done : (name id : List ℕ) (body : Pairs) (m : Manifest) → artifact_in name id body ≡ Ok m → IsRead name id body m
 read_done name id body m is =
     steps_done (named_step name body) (version_step body) (are_as_asked stated_rows body) (frozen_step body) (metadata_step name body) (files_step body) (identified_step id body) (made_of name id body) m is
+
+-- what is read behind metadata, by the identifier that was sent
+abbrev behind_metadata : List ℕ → List ℕ → Pairs → Version → Bool → Metadata → Result Manifest MetaFault
+behind_metadata name id body version frozen own = by_files (files_step body) (identified_step id body) (made_of name id body version frozen own)
+
+-- once the steps before were done, what is read behind them is the artifact
+pub artifact_behind : (name id sent : List ℕ) (body : Pairs) (result : Result Manifest MetaFault) (found : Result Metadata Flaw) (named stated : Unit {0}) (version : Version) (frozen : Bool) (own : Metadata)
+    → named_step name body ≡ Ok named → version_step body ≡ Ok version → are_as_asked stated_rows body ≡ Ok stated → frozen_step body ≡ Ok frozen
+    → Finds found (then_do (needed metadata_key body) (metadata_of name version)) → in_field metadata_key found ≡ Ok own → sent ≡ id
+    → Gives result (behind_metadata name sent body version frozen own) → Gives result (artifact_in name id body)
+artifact_behind name id sent body result found named stated version frozen own is_named is_version is_stated is_frozen finds is_own same gives =
+    let due : Result Metadata Flaw = then_do (needed metadata_key body) (metadata_of name version) in
+    let own_found : due ≡ Ok own = subst (λ (r : Result Metadata Flaw). Finds r due) (field_done metadata_key found own is_own) finds in
+    let make = made_of name id body in
+    let steps : artifact_in name id body ≡ behind_metadata name id body version frozen own =
+    then_is (named_step name body) (λ done. by_version (version_step body) (are_as_asked stated_rows body) (frozen_step body) (metadata_step name body) (files_step body) (identified_step id body) make) named is_named
+    ∙ then_is (version_step body) (λ v. by_stated (are_as_asked stated_rows body) (frozen_step body) (metadata_step name body v) (files_step body) (identified_step id body) (make v)) version is_version
+    ∙ then_is (are_as_asked stated_rows body) (λ done. by_frozen (frozen_step body) (metadata_step name body version) (files_step body) (identified_step id body) (make version)) stated is_stated
+    ∙ then_is (frozen_step body) (λ f. by_metadata (metadata_step name body version) (files_step body) (identified_step id body) (make version f)) frozen is_frozen
+    ∙ then_is (metadata_step name body version) (λ m. by_files (files_step body) (identified_step id body) (make version frozen m)) own (field_is metadata_key due own own_found) in
+    subst (Gives result) (sym steps) (subst (λ (i : List ℕ). Gives result (behind_metadata name i body version frozen own)) same gives)
 
 -- ---- what an artifact keeps
 

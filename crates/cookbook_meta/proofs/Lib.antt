@@ -4,6 +4,7 @@ pub mod EntryLemmas
 pub mod KeyLemmas
 pub mod LineLemmas
 pub mod MetadataLemmas
+pub mod NeedLemmas
 pub mod PairLemmas
 pub mod PathLemmas
 pub mod PutLemmas

@@ -1,5 +1,5 @@
 -- A manifest is read again from what is stored of it.
-use Rattle.std.proofs.Common.{◌≡◌, ◌&&◌, ℕ, Bool, true, List, [], ◌∷◌, Some, Result, Ok, Err, ok_or, codes, bytes_eq, refl, ap, subst, ◌∙◌}
+use Rattle.std.proofs.Common.{◌≡◌, ◌&&◌, ℕ, Bool, true, List, [], ◌∷◌, Some, Result, Ok, Err, ok_or, codes, bytes_eq, refl, sym, ap, subst, ◌∙◌}
 use Rattle.std.specs.Cmp.{nat_eq_equiv}
 use Rattle.std.specs.Cmp.Lexicographic.{nat_list_eq_equiv}
 use Rattle.std.specs.List.{AllByRecursion}
@@ -15,10 +15,12 @@ use Rattle.cookbook_meta.specs.Faults.{then_do, in_field, keep_if}
 use Rattle.cookbook_meta.specs.Fields.{Row, has_form, named, released, is_as_asked, are_as_asked, told_by, release_name, same_version}
 use Rattle.cookbook_meta.specs.Manifests.{manifest_in, manifest_from, metadata_of}
 use Rattle.cookbook_meta.specs.Metadata.{stored_metadata}
+use Rattle.cookbook_meta.specs.Outcomes.{Finds, Gives}
 use Rattle.cookbook_meta.specs.Parts.{needed, truth_of, version_read}
 use Rattle.cookbook_meta.specs.Segments.{segments, segment_docs, with_segments}
 use Rattle.cookbook_meta.specs.Stored.{head_keys, is_field, metadata_key, metadata_sent, stored_fields, unlisted, with_pairs, whole_of}
 use Rattle.cookbook_meta.specs.declared.entries.Entry.{Entry}
+use Rattle.cookbook_meta.specs.declared.fault.Flaw.{Flaw}
 use Rattle.cookbook_meta.specs.declared.fault.Flaw.TheVariants.{MissingField, NameDiffers}
 use Rattle.cookbook_meta.specs.declared.fault.MetaFault.{MetaFault}
 use Rattle.cookbook_meta.specs.declared.manifests.Manifest.{Manifest}
@@ -172,6 +174,20 @@ module _ (name : List ℕ) (version : Version) (body : Pairs) (read : reads_vers
 -- the manifest that the steps make under a name and a version of a body
 abbrev pub made_of : List ℕ → Version → Pairs → Bool → Metadata → List Entry → Manifest
 made_of name version body frozen own files = record { name = name; version = version; metadata = own; frozen = frozen; files = files; whole = tree.Dict (whole_of name version frozen files body) }
+
+-- once each step was done, what is made of their outcomes is the manifest
+pub manifest_made : (name : List ℕ) (version : Version) (body : Pairs) (result : Result Manifest MetaFault) (found : Result Metadata Flaw) (told : Unit {0}) (frozen : Bool) (own : Metadata) (files : List Entry) (object : List (List ℕ × Doc))
+    → are_as_asked (told_by name version) body ≡ Ok told → in_field (codes "frozen?") (truth_of (pair_at (codes "frozen?") body)) ≡ Ok frozen
+    → Finds found (then_do (needed metadata_key body) (metadata_of name version)) → in_field metadata_key found ≡ Ok own → with_segments segments body [] ≡ Ok files → object ≡ whole_of name version frozen files body
+    → Gives result (Ok (record { name = name; version = version; metadata = own; frozen = frozen; files = files; whole = tree.Dict object })) → Gives result (manifest_in name version body)
+manifest_made name version body result found told frozen own files object is_told is_frozen finds is_own is_files is_object gives =
+    let due : Result Metadata Flaw = then_do (needed metadata_key body) (metadata_of name version) in
+    let own_found : due ≡ Ok own = subst (λ (r : Result Metadata Flaw). Finds r due) (field_done metadata_key found own is_own) finds in
+    let steps : manifest_in name version body ≡ Ok (made_of name version body frozen own files) =
+    λ i. by_steps (is_told i) (is_frozen i) (field_is metadata_key due own own_found i) (is_files i) (made_of name version body) in
+    let made : Gives result (Ok (made_of name version body frozen own files)) =
+    subst (λ (w : List (List ℕ × Doc)). Gives result (Ok (record { name = name; version = version; metadata = own; frozen = frozen; files = files; whole = tree.Dict w }))) is_object gives in
+    subst (Gives result) (sym steps) made
 
 manifest_in_again : (name : List ℕ) (version : Version) (body : Pairs) (m : Manifest) → reads_version (version_text version) ≡ Ok version → manifest_in name version body ≡ Ok m → manifest_from name version (doc_of m.whole) ≡ Ok m
 manifest_in_again name version body m read is =

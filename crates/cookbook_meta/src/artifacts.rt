@@ -1,21 +1,26 @@
 //! Artifacts: the manifests of cookbooks under their identifiers.
-ghost use Rattle.std.specs.Prelude.{◌≡◌, IfOk, codes};
+ghost use Rattle.std.specs.Prelude.{◌≡◌, [], IfOk, Ok, codes};
 ghost use Rattle.doc_tree.specs.Doc.{pairs_of};
 ghost use Rattle.doc_tree.specs.Tree.{doc_of};
+ghost use Rattle.doc_tree.specs.declared.tree.Tree.TheVariants as tree;
 ghost use Rattle.cookbook_meta.specs.Artifacts as spec;
-ghost use Rattle.cookbook_meta.specs.Faults.{then_do};
+ghost use Rattle.cookbook_meta.specs.Faults.{in_field, then_do};
 ghost use Rattle.cookbook_meta.specs.Outcomes.{Gives};
 ghost use Rattle.cookbook_meta.specs.Parts.{needed};
+ghost use Rattle.cookbook_meta.specs.Segments.{segments, with_segments};
 ghost use Rattle.cookbook_meta.specs.Sound as sound;
+ghost use Rattle.cookbook_meta.specs.Stored as stored;
 
 use crate::fault::{Flaw, MetaFault, in_field};
 use crate::fields::{are_as_asked, named_by, stated};
-use crate::manifests::{Manifest, metadata_at};
+use crate::manifests::{Manifest, manifest_of, metadata_at};
+use crate::metadata::Metadata;
 use crate::parts::{is_identifier, text_at, truth_of, version_at};
 use crate::segments::files_in;
 use crate::stored::artifact_whole;
 use doc_tree::{Fields, Name, Text, Tree};
 use std::alloc::Global;
+use version_rules::Version;
 
 /// The artifact that a body gives under the path's name and identifier, looked at field by field: `name`, which may be
 /// missing and else is the path's; `version`; `chef_type` and `json_class`, which may be missing; `frozen?`, false where
@@ -53,17 +58,25 @@ fn artifact_in(alloc: Global, body: &Fields, name: &Name, id: &Text) -> Result<M
     are_as_asked(alloc, &stated(), body)?;
     let frozen = in_field(alloc, "frozen?", truth_of(body.get("frozen?")))?;
     let metadata = in_field(alloc, "metadata", metadata_at(alloc, body, name, &version))?;
+    artifact_with(alloc, body, name, version, id, frozen, metadata)
+}
+
+/// The artifact with these metadata, whose files are those of a body.
+fn artifact_with(
+    alloc: Global,
+    body: &Fields,
+    name: &Name,
+    version: Version,
+    id: &str,
+    frozen: bool,
+    metadata: Metadata,
+) -> Result<Manifest, MetaFault>
+    ensures { Gives result (then_do (with_segments segments (pairs_of body.now) []) (λ files. then_do (in_field spec.identifier_key (then_do (needed spec.identifier_key (pairs_of body.now)) (spec.is_identified id.now))) (λ identified. Ok (record { name = name.now; version = version; metadata = metadata; frozen = frozen; files = files; whole = tree.Dict (stored.artifact_whole name.now version id.now frozen files (pairs_of body.now)) })))) }
+{
     let files = files_in(alloc, body)?;
     in_field(alloc, "identifier", is_identified(body, id))?;
     let whole = artifact_whole(alloc, name, version, id, frozen, files.as_slice(), body)?;
-    Ok(Manifest {
-        name: name.copy(alloc)?,
-        version,
-        metadata,
-        frozen,
-        files,
-        whole: Tree::Dict(whole),
-    })
+    manifest_of(alloc, name, version, metadata, frozen, files, whole)
 }
 
 /// Whether a body has this identifier.

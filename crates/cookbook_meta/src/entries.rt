@@ -1,8 +1,9 @@
 //! The files that a manifest names.
-ghost use Rattle.std.specs.Prelude.{◌≡◌, IfOk};
+ghost use Rattle.std.specs.Prelude.{◌≡◌, IfOk, Ok, OnOk};
 ghost use Rattle.doc_tree.specs.Doc.{pairs_of};
 ghost use Rattle.doc_tree.specs.Tree.{doc_of};
 ghost use Rattle.cookbook_meta.specs.Entries as spec;
+ghost use Rattle.cookbook_meta.specs.Faults.{then_do};
 ghost use Rattle.cookbook_meta.specs.Outcomes.{Finds};
 
 use crate::fault::Flaw;
@@ -20,6 +21,19 @@ pub struct Entry {
     pub path: Text,
     pub checksum: Text,
     pub specificity: Text,
+}
+
+impl Entry {
+    /// An entry whose texts are empty. It takes no memory.
+    fn blank(alloc: Global) -> Entry {
+        Entry {
+            segment: Text::of(String::new(alloc)),
+            name: Text::of(String::new(alloc)),
+            path: Text::of(String::new(alloc)),
+            checksum: Text::of(String::new(alloc)),
+            specificity: Text::of(String::new(alloc)),
+        }
+    }
 }
 
 /// The files of a manifest: by segments, in the order of the nine, and in a segment in the order sent.
@@ -40,17 +54,33 @@ pub(crate) fn entry_of(alloc: Global, segment: &str, tree: &Tree) -> Result<Entr
 fn entry_in(alloc: Global, segment: &str, body: &Fields) -> Result<Entry, Flaw>
     ensures { Finds result (spec.entry_in segment.now (pairs_of body.now)) }
 {
+    let mut entry = Entry::blank(alloc);
+    fill_entry(alloc, segment, body, &mut entry)?;
+    Ok(entry)
+}
+
+/// Writes what a Dict tells into an entry.
+fn fill_entry(alloc: Global, segment: &str, body: &Fields, entry: &mut Entry) -> Result<(), Flaw>
+    ensures { Finds (then_do result (λ done. Ok entry.new)) (spec.entry_in segment.now (pairs_of body.now)) }
+{
     let name = text_at(body, "name")?;
     let path = text_at(body, "path")?;
     let checksum = checksum_at(body, "checksum")?;
     let specificity = text_or("default", body.get("specificity"))?;
-    Ok(Entry {
-        segment: Text::from_str(alloc, segment)?,
-        name: Text::from_str(alloc, name)?,
-        path: Text::from_str(alloc, path)?,
-        checksum: Text::from_str(alloc, checksum)?,
-        specificity: Text::from_str(alloc, specificity)?,
-    })
+    write(alloc, &mut entry.segment, segment)?;
+    write(alloc, &mut entry.name, name)?;
+    write(alloc, &mut entry.path, path)?;
+    write(alloc, &mut entry.checksum, checksum)?;
+    write(alloc, &mut entry.specificity, specificity)?;
+    Ok(())
+}
+
+/// Writes this text in place of what was there.
+fn write(alloc: Global, to: &mut Text, text: &str) -> Result<(), NoMemory>
+    ensures { OnOk result (to.new ≡ text.now) }
+{
+    *to = Text::from_str(alloc, text)?;
+    Ok(())
 }
 
 /// An entry as it is stored.

@@ -1,10 +1,12 @@
 //! The manifest of a cookbook's version.
-ghost use Rattle.std.specs.Prelude.{◌≡◌, IfOk};
+ghost use Rattle.std.specs.Prelude.{◌≡◌, IfOk, Ok};
 ghost use Rattle.doc_tree.specs.Doc.{pairs_of};
 ghost use Rattle.doc_tree.specs.Tree.{doc_of};
 ghost use Rattle.doc_tree.specs.Valid.{InOrder};
+ghost use Rattle.doc_tree.specs.declared.tree.Tree.TheVariants as tree;
 ghost use Rattle.cookbook_meta.specs.Checksums as named;
 ghost use Rattle.cookbook_meta.specs.Faults.{inside, then_do};
+ghost use Rattle.cookbook_meta.specs.Fields as fields;
 ghost use Rattle.cookbook_meta.specs.Manifests as spec;
 ghost use Rattle.cookbook_meta.specs.Metadata.{metadata_from};
 ghost use Rattle.cookbook_meta.specs.Outcomes.{Finds, Gives};
@@ -70,13 +72,41 @@ fn manifest_in(
     ensures { Gives result (spec.manifest_in name.now version (pairs_of body.now)) }
 {
     let release = release_name(alloc, name, version)?;
-    let release = release.as_str();
+    manifest_told(alloc, body, name, version, release.as_str())
+}
+
+/// The manifest that a body gives, where this is the name of the release.
+fn manifest_told(
+    alloc: Global,
+    body: &Fields,
+    name: &Name,
+    version: Version,
+    release: &str,
+) -> Result<Manifest, MetaFault>
+    requires { release.now ≡ fields.release_name name.now version }
+    ensures { Gives result (spec.manifest_in name.now version (pairs_of body.now)) }
+{
     are_as_asked(alloc, &told_by(name.as_str(), release, version), body)?;
     let frozen = in_field(alloc, "frozen?", truth_of(body.get("frozen?")))?;
     let metadata = in_field(alloc, "metadata", metadata_at(alloc, body, name, &version))?;
     let files = files_in(alloc, body)?;
     let entries = files.as_slice();
     let whole = whole_of(alloc, name, version, release, frozen, entries, body)?;
+    manifest_of(alloc, name, version, metadata, frozen, files, whole)
+}
+
+/// The manifest of these parts.
+pub(crate) fn manifest_of(
+    alloc: Global,
+    name: &Name,
+    version: Version,
+    metadata: Metadata,
+    frozen: bool,
+    files: Entries,
+    whole: Fields,
+) -> Result<Manifest, MetaFault>
+    ensures { Gives result (Ok (record { name = name.now; version = version; metadata = metadata; frozen = frozen; files = files; whole = tree.Dict whole })) }
+{
     Ok(Manifest {
         name: name.copy(alloc)?,
         version,

@@ -1,9 +1,10 @@
 //! The metadata of a cookbook's version.
-ghost use Rattle.std.specs.Prelude.{◌≡◌, IfOk, option_map};
+ghost use Rattle.std.specs.Prelude.{◌≡◌, ◌∷◌, ◌++◌, [], IfOk, Ok, option_map};
 ghost use Rattle.doc_tree.specs.Doc.{pairs_of};
 ghost use Rattle.doc_tree.specs.Part.{pair_at};
 ghost use Rattle.doc_tree.specs.Tree.{doc_of};
 ghost use Rattle.cookbook_meta.specs.Faults as faults;
+ghost use Rattle.cookbook_meta.specs.Faults.{then_do};
 ghost use Rattle.cookbook_meta.specs.Metadata as spec;
 ghost use Rattle.cookbook_meta.specs.Outcomes.{Finds, Gives};
 
@@ -86,9 +87,18 @@ fn needs_in(alloc: Global, fields: &Fields) -> Result<Needs, Flaw>
 {
     let mut needs = Needs::new(alloc);
     for field in fields.as_slice() {
-        needs.push(need_of(alloc, &field.key, &field.tree)?)?;
+        push_need(alloc, &mut needs, &field.key, &field.tree)?;
     }
     Ok(needs)
+}
+
+/// Adds the need that a key and its tree tell.
+fn push_need(alloc: Global, needs: &mut Needs, key: &Text, tree: &Tree) -> Result<(), Flaw>
+    ensures { Finds (then_do result (λ done. Ok needs.new)) (then_do (spec.need_of key.now (doc_of tree.now)) (λ need. Ok (needs.old ++ need ∷ []))) }
+{
+    let need = need_of(alloc, key, tree)?;
+    needs.push(need)?;
+    Ok(())
 }
 
 fn need_of(alloc: Global, key: &Text, tree: &Tree) -> Result<Need, Flaw>

@@ -1,8 +1,10 @@
 //! The nine segments of a manifest.
-ghost use Rattle.std.specs.Prelude.{◌≡◌, [], IfOk, map, option_map};
+ghost use Rattle.std.specs.Prelude.{◌≡◌, [], IfOk, Ok, OnOk, map, option_map};
 ghost use Rattle.doc_tree.specs.Doc.{docs_of, pairs_of};
 ghost use Rattle.doc_tree.specs.Tree.{doc_of};
 ghost use Rattle.cookbook_meta.specs.Entries.{with_entries};
+ghost use Rattle.cookbook_meta.specs.Faults.{then_do};
+ghost use Rattle.cookbook_meta.specs.Gathered.{HasPathsOf};
 ghost use Rattle.cookbook_meta.specs.Outcomes.{Finds, Gives};
 ghost use Rattle.cookbook_meta.specs.Segments as spec;
 
@@ -38,51 +40,60 @@ pub(crate) fn files_in(alloc: Global, body: &Fields) -> Result<Entries, MetaFaul
     let mut files = Gathered::none(alloc);
     for segment in segments() {
         let found = body.get(segment);
-        files = in_field(alloc, segment, with_segment(alloc, segment, found, files))?;
+        in_field(
+            alloc,
+            segment,
+            add_segment(alloc, segment, found, &mut files),
+        )?;
     }
     Ok(files.into_entries())
 }
 
-/// These entries and behind them those of a segment.
-fn with_segment(
+/// Adds the entries of a segment behind these.
+fn add_segment(
     alloc: Global,
     segment: &str,
     found: Option<&Tree>,
-    files: Gathered,
-) -> Result<Gathered, Flaw>
-    ensures { Finds result (spec.with_segment segment.now (option_map (λ t. doc_of t.now) found.entry) files) }
+    files: &mut Gathered,
+) -> Result<(), Flaw>
+    requires { HasPathsOf files.old.entries.items files.old.paths }
+    ensures entries { Finds (then_do result (λ done. Ok files.new.entries.items)) (spec.with_segment segment.now (option_map (λ t. doc_of t.now) found.entry) files.old.entries.items) }
+    ensures paths { OnOk result (HasPathsOf files.new.entries.items files.new.paths) }
 {
     match found {
-        None => Ok(files),
-        Some(tree) => with_list(alloc, segment, tree, files),
+        None => Ok(()),
+        Some(tree) => add_list(alloc, segment, tree, files),
     }
 }
 
-fn with_list(alloc: Global, segment: &str, tree: &Tree, files: Gathered) -> Result<Gathered, Flaw>
-    ensures { Finds result (spec.with_list segment.now (doc_of tree.now) files) }
+fn add_list(alloc: Global, segment: &str, tree: &Tree, files: &mut Gathered) -> Result<(), Flaw>
+    requires { HasPathsOf files.old.entries.items files.old.paths }
+    ensures entries { Finds (then_do result (λ done. Ok files.new.entries.items)) (spec.with_list segment.now (doc_of tree.now) files.old.entries.items) }
+    ensures paths { OnOk result (HasPathsOf files.new.entries.items files.new.paths) }
 {
     match tree {
-        Tree::List(trees) => with_entries(alloc, segment, trees, files),
+        Tree::List(trees) => add_entries(alloc, segment, trees, files),
         Tree::Null | Tree::Bool(_) | Tree::Whole(_) | Tree::Words(_) | Tree::Dict(_) => {
             Err(Flaw::WrongKind)
         }
     }
 }
 
-fn with_entries(
+fn add_entries(
     alloc: Global,
     segment: &str,
     trees: &Trees,
-    files: Gathered,
-) -> Result<Gathered, Flaw>
-    ensures { Finds result (with_entries segment.now (docs_of trees.now) files) }
+    files: &mut Gathered,
+) -> Result<(), Flaw>
+    requires { HasPathsOf files.old.entries.items files.old.paths }
+    ensures entries { Finds (then_do result (λ done. Ok files.new.entries.items)) (with_entries segment.now (docs_of trees.now) files.old.entries.items) }
+    ensures paths { OnOk result (HasPathsOf files.new.entries.items files.new.paths) }
 {
-    let mut files = files;
     for tree in trees.as_slice() {
         let entry = entry_of(alloc, segment, tree)?;
-        files = files.with(alloc, entry)?;
+        files.add(alloc, entry)?;
     }
-    Ok(files)
+    Ok(())
 }
 
 /// The entries of a segment, as they are stored.

@@ -1,9 +1,11 @@
 //! A manifest as it is stored.
-ghost use Rattle.std.specs.Prelude.{◌≡◌, IfOk, map, OnOk, option_map};
+ghost use Rattle.std.specs.Prelude.{◌≡◌, ◌∷◌, ◌++◌, [], IfOk, map, OnOk, option_map};
 ghost use Rattle.std.specs.List.{list_any};
+ghost use Rattle.std.specs.Map.{keys_of};
 ghost use Rattle.doc_tree.specs.Doc.{pairs_of};
 ghost use Rattle.doc_tree.specs.Part.{pair_at};
-ghost use Rattle.doc_tree.specs.Tree.{doc_of};
+ghost use Rattle.doc_tree.specs.Tree.{doc_of, pair_of};
+ghost use Rattle.doc_tree.specs.Valid.{InOrder};
 ghost use Rattle.cookbook_meta.specs.Fields.{release_name};
 ghost use Rattle.cookbook_meta.specs.Metadata.{stored_metadata};
 ghost use Rattle.cookbook_meta.specs.Segments as nine;
@@ -13,7 +15,7 @@ use crate::entries::Entry;
 use crate::metadata::stored_metadata;
 use crate::put::{put_text, put_tree};
 use crate::segments::{segment_trees, segments};
-use doc_tree::{Fields, Name, NoMemory, Tree};
+use doc_tree::{Field, Fields, Name, NoMemory, Tree};
 use std::alloc::Global;
 use version_rules::Version;
 
@@ -88,10 +90,19 @@ fn beside(alloc: Global, body: &Fields, keys: &[&str]) -> Result<Fields, NoMemor
     let mut made = Fields::with_capacity(alloc, room_for(body, keys))?;
     for field in body.as_slice() {
         if !is_field(field.key.as_str(), keys) {
-            made.push(field.key.copy(alloc)?, field.tree.copy(alloc)?)?;
+            push_copy(alloc, &mut made, field)?;
         }
     }
     Ok(made)
+}
+
+/// Adds a copy of a field at the end, whose key is above those of the others.
+fn push_copy(alloc: Global, made: &mut Fields, field: &Field) -> Result<(), NoMemory>
+    requires { InOrder (keys_of made.old ++ field.now.key ∷ []) }
+    ensures { OnOk result (made.new ≡ made.old ++ pair_of field.now ∷ []) }
+{
+    let key = field.key.copy(alloc)?;
+    made.push(key, field.tree.copy(alloc)?)
 }
 
 /// The number of keys of the stored object: those of the fields, and those that a body has beside them.

@@ -1,9 +1,8 @@
 -- The requests of a demo of one size: the organisations are created, and then a hundred turns are taken for each.
-use Rattle.std.specs.Prelude.{ℕ, ◌+◌, ◌-◌, ◌*◌, nat_lt, List, [], ◌∷◌, ◌++◌, false, Some, map, cond, codes, decimal}
+use Rattle.std.specs.Prelude.{ℕ, ◌+◌, ◌-◌, ◌*◌, nat_lt, List, [], ◌∷◌, ◌++◌, true, false, Some, map, cond, codes, decimal}
 use Rattle.std.specs.List.{range_with_len}
 use Rattle.doc_tree.specs.Doc.{Doc, words, dict, pairs_of}
 use Rattle.doc_tree.specs.Tree.{tree_of}
-use Rattle.route_table.specs.declared.availability.Availability.TheVariants.{Built}
 use Rattle.route_table.specs.declared.verbs.Verb.{Verb}
 use Rattle.route_table.specs.declared.verbs.Verb.TheVariants.{Get, Post, Put, Delete}
 use Rattle.org_core.specs.declared.collections.Collection.TheVariants.{Nodes}
@@ -66,7 +65,7 @@ asks verb org route parameters body = record {
   api = Some 0;
   verb = verb;
   place = Of org route;
-  availability = Built;
+  has_method = true;
   asked = parameters;
   body = body;
   close = false;

@@ -10,7 +10,7 @@ use org_core::{
     Body, Collection, ObjectsRoute, OrganisationRoute, Parameter, Parameters, Place, Request,
     Route, SearchRoute,
 };
-use route_table::{Availability, Verb};
+use route_table::Verb;
 use std::alloc::Global;
 
 /// The request that creates the organisation of this number.
@@ -125,7 +125,7 @@ fn asks(caller: Text, verb: Verb, org: Text, route: Route, asked: Parameters, bo
         api: Some(0),
         verb,
         place: Place::Of { org, route },
-        availability: Availability::Built,
+        has_method: true,
         asked,
         body,
         close: false,

@@ -7,6 +7,7 @@ pub mod SearchLemmas
 pub mod ChoiceLemmas
 pub mod EndLemmas
 pub mod EachLemmas
+pub mod CopyLemmas
 pub mod CandidateLemmas
 pub mod MeasureLemmas
 pub mod LoopLemmas

@@ -1,13 +1,14 @@
 //! An image is written.
-ghost use Rattle.std.specs.Prelude.{◌≡◌, ◌+◌, ◌<◌, ◌++◌, ◌∷◌, [], IfOk, OnOk, OnErr, map, string_bytes};
+ghost use Rattle.std.specs.Prelude.{◌≡◌, ◌+◌, ◌<◌, ◌++◌, ◌∷◌, [], IfOk, OnOk, OnErr, codes, map, string_bytes};
 ghost use Rattle.std.specs.BTreeMap.{IsOrdered};
 ghost use Rattle.std.specs.Cmp.Lexicographic.{slice_cmp};
 ghost use Rattle.std.specs.Ordering.{nat_cmp};
 ghost use Rattle.doc_tree.specs.Part.{with_pair};
-ghost use Rattle.doc_tree.specs.Doc.{words};
+ghost use Rattle.doc_tree.specs.Doc.{dict, pairs_of, words};
 ghost use Rattle.doc_tree.specs.Tree.{doc_of};
 ghost use Rattle.host_tree.specs.Documents.{doc_pair, entry_doc, image_of};
 ghost use Rattle.host_tree.specs.Modes.{mode_text};
+ghost use Rattle.host_tree.specs.declared.entry.Entry.TheVariants as entries;
 
 use crate::entry::Entry;
 use crate::image::ImageHost;
@@ -42,27 +43,56 @@ fn entry_tree(alloc: Global, entry: &Entry) -> Result<Tree, NoMemory>
     ensures { IfOk result (λ tree. doc_of tree ≡ entry_doc entry.now) }
 {
     let mut fields = Fields::with_capacity(alloc, 3)?;
-    match entry {
-        Entry::File { content, mode } => {
-            put(alloc, &mut fields, "content", content.copy(alloc)?)?;
-            put(alloc, &mut fields, "mode", mode_text(alloc, *mode)?)?;
-            put(alloc, &mut fields, "type", Text::from_str(alloc, "file")?)?;
-        }
-        Entry::Directory { mode } => {
-            put(alloc, &mut fields, "mode", mode_text(alloc, *mode)?)?;
-            put(
-                alloc,
-                &mut fields,
-                "type",
-                Text::from_str(alloc, "directory")?,
-            )?;
-        }
-        Entry::Link { to } => {
-            put(alloc, &mut fields, "to", to.copy(alloc)?)?;
-            put(alloc, &mut fields, "type", Text::from_str(alloc, "link")?)?;
-        }
-    }
+    put_entry(alloc, entry, &mut fields)?;
     Ok(Tree::Dict(fields))
+}
+
+fn put_entry(alloc: Global, entry: &Entry, fields: &mut Fields) -> Result<(), NoMemory>
+    requires { fields.old ≡ [] }
+    ensures { OnOk result (dict (pairs_of fields.new) ≡ entry_doc entry.now) }
+{
+    match entry {
+        Entry::File { content, mode } => put_file(alloc, content, *mode, fields),
+        Entry::Directory { mode } => put_directory(alloc, *mode, fields),
+        Entry::Link { to } => put_link(alloc, to, fields),
+    }
+}
+
+fn put_file(alloc: Global, content: &Text, mode: Mode, fields: &mut Fields) -> Result<(), NoMemory>
+    requires { fields.old ≡ [] }
+    ensures { OnOk result (dict (pairs_of fields.new) ≡ entry_doc (entries.File content.now mode)) }
+{
+    put_words(alloc, fields, "content", content.as_str())?;
+    put_mode(alloc, fields, mode)?;
+    put_words(alloc, fields, "type", "file")
+}
+
+fn put_directory(alloc: Global, mode: Mode, fields: &mut Fields) -> Result<(), NoMemory>
+    requires { fields.old ≡ [] }
+    ensures { OnOk result (dict (pairs_of fields.new) ≡ entry_doc (entries.Directory mode)) }
+{
+    put_mode(alloc, fields, mode)?;
+    put_words(alloc, fields, "type", "directory")
+}
+
+fn put_link(alloc: Global, to: &Text, fields: &mut Fields) -> Result<(), NoMemory>
+    requires { fields.old ≡ [] }
+    ensures { OnOk result (dict (pairs_of fields.new) ≡ entry_doc (entries.Link to.now)) }
+{
+    put_words(alloc, fields, "to", to.as_str())?;
+    put_words(alloc, fields, "type", "link")
+}
+
+fn put_mode(alloc: Global, fields: &mut Fields, mode: Mode) -> Result<(), NoMemory>
+    ensures { OnOk result (fields.new ≡ with_pair (codes "mode") (words (mode_text mode)) fields.old) }
+{
+    put(alloc, fields, "mode", mode_text(alloc, mode)?)
+}
+
+fn put_words(alloc: Global, fields: &mut Fields, key: &str, text: &str) -> Result<(), NoMemory>
+    ensures { OnOk result (fields.new ≡ with_pair key.now (words text.now) fields.old) }
+{
+    put(alloc, fields, key, Text::from_str(alloc, text)?)
 }
 
 fn put(alloc: Global, fields: &mut Fields, key: &str, text: Text) -> Result<(), NoMemory>

@@ -4,13 +4,11 @@ use Rattle.doc_tree.specs.Doc.{Doc, null, boolean, whole, words, list, dict}
 use Rattle.doc_tree.specs.Part.{pair_at}
 use Rattle.doc_tree.specs.Tree.{doc_of}
 use Rattle.doc_tree.specs.Name.{is_organisation_name}
-use Rattle.route_table.specs.declared.availability.Availability.{Availability}
-use Rattle.route_table.specs.declared.availability.Availability.TheVariants.{Lacking}
 use Rattle.route_table.specs.declared.paths.Path.{Path}
 use Rattle.route_table.specs.declared.paths.Path.TheVariants as path
 use Rattle.route_table.specs.declared.verbs.Verb.{Verb}
 use Rattle.route_table.specs.LeftOut.{is_left_out}
-use Rattle.route_table.specs.Table.{availability, path_at}
+use Rattle.route_table.specs.Table.{has_method, path_at}
 use Rattle.route_table.specs.Verbs.{is_post}
 use Rattle.org_core.specs.declared.collections.Collection.TheVariants.{Nodes, Roles, Environments, Clients}
 use Rattle.org_core.specs.declared.requests.Body.{Body}
@@ -100,19 +98,19 @@ abbrev pub place_of : Option (List (List ℕ)) → Place
 place_of None = NoRoute
 place_of (Some segments) = cond (is_left_out segments) LeftOut (place_found (path_at segments) segments)
 
--- what the table says of the path that was found, if one was, and a method
-abbrev pub availability_found : Option Path → Verb → Availability
-availability_found None verb = Lacking
-availability_found (Some p) verb = availability p verb
+-- the path that was found, if one was, has the method
+abbrev pub has_method_found : Option Path → Verb → Bool
+has_method_found None verb = false
+has_method_found (Some p) verb = has_method p verb
 
--- what the table says of the path that these segments name and a method
-abbrev pub availability_of : Option (List (List ℕ)) → Verb → Availability
-availability_of None verb = Lacking
-availability_of (Some segments) verb = cond (is_left_out segments) Lacking (availability_found (path_at segments) verb)
+-- the path that these segments name has the method
+abbrev pub has_method_of : Option (List (List ℕ)) → Verb → Bool
+has_method_of None verb = false
+has_method_of (Some segments) verb = cond (is_left_out segments) false (has_method_found (path_at segments) verb)
 
 -- both
 abbrev pub aim_of : Option (List (List ℕ)) → Verb → Aim
-aim_of segments verb = record { place = place_of segments; availability = availability_of segments verb }
+aim_of segments verb = record { place = place_of segments; has_method = has_method_of segments verb }
 
 -- an organisation's name
 abbrev pub organisation_name_from : Option Doc → Option (List ℕ)

@@ -25,26 +25,3 @@ fn is_option(option: &[u8], name: &[u8]) -> bool
 {
     option.eq_ignore_ascii_case(name)
 }
-
-#[cfg(test)]
-mod tests {
-    use super::*;
-
-    #[test]
-    fn a_value_lists_options(rt: HostRuntime) {
-        let cases: [(&[u8], bool); 9] = [
-            (b"close", true),
-            (b"CLOSE", true),
-            (b"keep-alive, Close", true),
-            (b"close,keep-alive", true),
-            (b" x ,\t close \t, y", true),
-            (b"", false),
-            (b"keep-alive", false),
-            (b"closed, not-close", false),
-            (b"close;q=1, clo se", false),
-        ];
-        for (value, expected) in cases {
-            assert_eq!(rt; lists_close(value), expected, "at {value:?}");
-        }
-    }
-}

@@ -1,8 +1,7 @@
 //! Where a path points, by its segments and the table of routes.
 ghost use Rattle.http_routes.specs.Places as spec;
 ghost use Rattle.http_routes.specs.Places.{nth_segment};
-ghost use Rattle.route_table.specs.declared.availability.Availability.TheVariants.{Lacking};
-ghost use Rattle.std.specs.Prelude.{◌≡◌, ℕ, List, IfOk, Some, option_copied};
+ghost use Rattle.std.specs.Prelude.{◌≡◌, ℕ, List, IfOk, Some, false, option_copied};
 ghost use Rattle.std.specs.Vec.Iter.{into_iter_items};
 
 use doc_tree::{NoMemory, Text, Texts, Tree, is_organisation_name};
@@ -10,22 +9,22 @@ use org_core::{
     AccessRoute, Body, Collection, CookbookRoute, DataRoute, ObjectsRoute, OrganisationRoute,
     Place, PolicyRoute, Route, SearchRoute,
 };
-use route_table::{Availability, Path, Routes, Verb, is_left_out};
+use route_table::{Path, Routes, Verb, is_left_out};
 use std::alloc::Global;
 use std::vec::IntoIter;
 
-/// Where a request goes, as far as its head tells it, and what the table of routes says of it.
+/// Where a request goes, as far as its head tells it, and whether its method is one of the path's.
 #[derive(Drop)]
 pub(crate) struct Aim {
     /// The place.
     pub(crate) place: Place,
-    /// What the table says of the path and the method.
-    pub(crate) availability: Availability,
+    /// Whether the path has the method in the table of routes.
+    pub(crate) has_method: bool,
 }
 
 /// The place that the segments of a path name, which are moved into it: the path of the table of
-/// routes, with the names in it; and what the table says of the path with a method. A path that has
-/// no segments, `None`, has no route.
+/// routes, with the names in it; and whether the path has a method. A path that has no segments, `None`,
+/// has no route.
 pub(crate) fn aim_of(
     alloc: Global,
     routes: &Routes,
@@ -49,18 +48,18 @@ fn aim_in(alloc: Global, routes: &Routes, segments: Texts, verb: Verb) -> Result
     match routes.find(alloc, segments.as_slice())? {
         Some(found) => Ok(Aim {
             place: place_at(alloc, found.path(), segments),
-            availability: found.availability(verb),
+            has_method: found.has_method(verb),
         }),
         None => Ok(off_the_table(Place::NoRoute)),
     }
 }
 
 fn off_the_table(place: Place) -> Aim
-    ensures { result ≡ record { place = place; availability = Lacking } }
+    ensures { result ≡ record { place = place; has_method = false } }
 {
     Aim {
         place,
-        availability: Availability::Lacking,
+        has_method: false,
     }
 }
 

@@ -5,87 +5,89 @@ use org_core::{
     AccessRoute, Body, CookbookRoute, DataRoute, ObjectsRoute, OrganisationRoute, Place,
     PolicyRoute, Request, Route, SearchRoute,
 };
-use route_table::{Availability, Routes};
+use route_table::Routes;
 use std::alloc::Global;
 use std::test::Fail;
 
 // A method, a target and a body, and the request of the operator that they spell.
-const REQUESTS: &str = r#"POST /organizations?x=1 {"name":"acme"} => acme create built doc
-POST /organizations {"a":1,"name":"a-1_b"} => a-1_b create built doc
-POST /organizations {"name":"Acme"} => organisations built doc
-POST /organizations {"name":7} => organisations built doc
-POST /organizations ["name"] => organisations built doc
-POST /organizations {"name":"acme" => organisations built bad
-POST /organizations => organisations built bad
-GET /organizations {"name":"acme"} => organisations built empty
-PUT /organizations {"name":"acme"} => organisations lacking empty
-post /organizations {"name":"acme"} => organisations lacking empty
-GET /organizations/acme => acme whole built empty
-DELETE /organizations/acme => acme whole lacking empty
-POST /organizations/acme/nodes {} => acme nodes built doc
-GET /organizations/acme/%6eodes {} => acme nodes built empty
-GET /organizations/acme/roles => acme roles built empty
-GET /organizations/acme/environments => acme environments built empty
-POST /organizations/acme/clients { => acme clients built bad
-PUT /organizations/acme/nodes/web1 {} => acme nodes web1 built doc
-POST /organizations/acme/nodes/web1 {} => acme nodes web1 lacking empty
-GET /organizations/acme/nodes/a%20b => acme nodes a b built empty
-GET /organizations/acme/roles/r => acme roles r built empty
-GET /organizations/acme/environments/e => acme environments e built empty
-DELETE /organizations/acme/clients/c {} => acme clients c built empty
-POST /organizations/acme/groups {} => acme groups built doc
-GET /organizations/acme/groups/g => acme group g built empty
-GET /organizations/acme/users => acme users built empty
-GET /organizations/acme/users/u => acme user u built empty
-GET /organizations/acme/containers => acme containers built empty
-PUT /organizations/acme/containers/c {} => acme container c lacking empty
-GET /organizations/acme/data/b/_acl => acme list data b built empty
-GET /organizations/acme/policy_groups/g/_acl => acme list policy_groups g built empty
-PUT /organizations/acme/nodes/web/_acl/read {} => acme entry nodes web read built doc
-GET /organizations/acme/data => acme bags built empty
-GET /organizations/acme/data/b => acme bag b built empty
-PUT /organizations/acme/data/b/i {} => acme item b i built doc
-POST /organizations/acme/sandboxes {} => acme sandboxes built doc
-PUT /organizations/acme/sandboxes/1 {} => acme sandbox 1 built doc
-PUT /organizations/acme/files/0f x => acme file 0f built raw
-GET /organizations/acme/cookbooks => acme cookbooks built empty
-GET /organizations/acme/cookbooks/c => acme cookbook c built empty
-GET /organizations/acme/cookbooks/c/1.0.0 => acme version c 1.0.0 built empty
-GET /organizations/acme/universe => acme universe built empty
-GET /organizations/acme/cookbook_artifacts => acme artifacts later empty
-GET /organizations/acme/cookbook_artifacts/c/1f => acme artifact c 1f later empty
-POST /organizations/acme/environments/e/cookbook_versions {} => acme solved e built doc
-GET /organizations/acme/policies => acme policies later empty
-GET /organizations/acme/policies/p => acme policy p later empty
-POST /organizations/acme/policies/p/revisions {} => acme revisions p later empty
-GET /organizations/acme/policies/p/revisions/1 => acme revision p 1 later empty
-GET /organizations/acme/policy_groups => acme policygroups later empty
-GET /organizations/acme/policy_groups/g => acme policygroup g later empty
-PUT /organizations/acme/policy_groups/g/policies/p {} => acme assignment g p later empty
-GET /organizations/acme/search => acme indexes built empty
-POST /organizations/acme/search/node {} => acme index node built doc
-POST /organizations/acme/nodes/a/b {} => no route lacking empty
-GET /organizations/acme/nodes/a%2Fb => no route lacking empty
-GET /organizations/acme/nodes/ => no route lacking empty
-PUT /license {} => no route lacking empty
-GET organizations => no route lacking empty
-GET /users => left out lacking empty
-POST /users {} => left out lacking empty
-GET /users/ann/keys => left out lacking empty
-GET /organizations/acme/principals/ann => left out lacking empty
-PUT /organizations/acme/required_recipe {} => left out lacking empty
-GET /organizations/acme/data/b/i/x => no route lacking empty
-POST /organizations/acme/data/b [1] => acme bag b built doc"#;
+const REQUESTS: &str = r#"POST /organizations?x=1 {"name":"acme"} => acme create has doc
+POST /organizations {"a":1,"name":"a-1_b"} => a-1_b create has doc
+POST /organizations {"name":"Acme"} => organisations has doc
+POST /organizations {"name":7} => organisations has doc
+POST /organizations ["name"] => organisations has doc
+POST /organizations {"name":"acme" => organisations has bad
+POST /organizations => organisations has bad
+GET /organizations {"name":"acme"} => organisations has empty
+PUT /organizations {"name":"acme"} => organisations lacks empty
+post /organizations {"name":"acme"} => organisations lacks empty
+GET /organizations/acme => acme whole has empty
+DELETE /organizations/acme => acme whole lacks empty
+POST /organizations/acme/nodes {} => acme nodes has doc
+GET /organizations/acme/%6eodes {} => acme nodes has empty
+GET /organizations/acme/roles => acme roles has empty
+GET /organizations/acme/environments => acme environments has empty
+POST /organizations/acme/clients { => acme clients has bad
+PUT /organizations/acme/nodes/web1 {} => acme nodes web1 has doc
+POST /organizations/acme/nodes/web1 {} => acme nodes web1 lacks empty
+GET /organizations/acme/nodes/a%20b => acme nodes a b has empty
+GET /organizations/acme/roles/r => acme roles r has empty
+GET /organizations/acme/environments/e => acme environments e has empty
+DELETE /organizations/acme/clients/c {} => acme clients c has empty
+POST /organizations/acme/groups {} => acme groups has doc
+GET /organizations/acme/groups/g => acme group g has empty
+GET /organizations/acme/users => acme users has empty
+GET /organizations/acme/users/u => acme user u has empty
+GET /organizations/acme/containers => acme containers has empty
+PUT /organizations/acme/containers/c {} => acme container c lacks empty
+GET /organizations/acme/data/b/_acl => acme list data b has empty
+GET /organizations/acme/policy_groups/g/_acl => acme list policy_groups g has empty
+PUT /organizations/acme/nodes/web/_acl/read {} => acme entry nodes web read has doc
+GET /organizations/acme/data => acme bags has empty
+GET /organizations/acme/data/b => acme bag b has empty
+PUT /organizations/acme/data/b/i {} => acme item b i has doc
+POST /organizations/acme/sandboxes {} => acme sandboxes has doc
+PUT /organizations/acme/sandboxes/1 {} => acme sandbox 1 has doc
+PUT /organizations/acme/files/0f x => acme file 0f has raw
+GET /organizations/acme/cookbooks => acme cookbooks has empty
+GET /organizations/acme/cookbooks/c => acme cookbook c has empty
+GET /organizations/acme/cookbooks/c/1.0.0 => acme version c 1.0.0 has empty
+GET /organizations/acme/universe => acme universe has empty
+GET /organizations/acme/cookbook_artifacts => acme artifacts has empty
+GET /organizations/acme/cookbook_artifacts/c/1f => acme artifact c 1f has empty
+POST /organizations/acme/environments/e/cookbook_versions {} => acme solved e has doc
+GET /organizations/acme/policies => acme policies has empty
+GET /organizations/acme/policies/p => acme policy p has empty
+POST /organizations/acme/policies/p/revisions {} => acme revisions p has doc
+GET /organizations/acme/policies/p/revisions/1 => acme revision p 1 has empty
+GET /organizations/acme/policy_groups => acme policygroups has empty
+GET /organizations/acme/policy_groups/g => acme policygroup g has empty
+PUT /organizations/acme/policy_groups/g/policies/p {} => acme assignment g p has doc
+GET /organizations/acme/search => acme indexes has empty
+POST /organizations/acme/search/node {} => acme index node has doc
+POST /organizations/acme/nodes/a/b {} => no route lacks empty
+GET /organizations/acme/nodes/a%2Fb => no route lacks empty
+GET /organizations/acme/nodes/ => no route lacks empty
+PUT /license {} => no route lacks empty
+GET organizations => no route lacks empty
+GET /users => left out lacks empty
+POST /users {} => left out lacks empty
+GET /users/ann/keys => left out lacks empty
+GET /organizations/acme/principals/ann => left out lacks empty
+PUT /organizations/acme/required_recipe {} => left out lacks empty
+GET /organizations/acme/data/b/i/x => no route lacks empty
+POST /organizations/acme/data/b [1] => acme bag b has doc
+"#;
 
 // A caller, a version and a target, and the POST of `{"name":"acme"}` that they spell.
-const POSTS: &str = r#"pivotal 1 /organizations/o/nodes => o nodes built doc
-pivotal 2 /organizations/o/nodes => o nodes built empty
-pivotal x /organizations/o/nodes => o nodes built empty
-ann 1 /organizations/o/nodes => o nodes built doc
- 1 /organizations/o/nodes => o nodes built doc
-pivotal 2 /organizations => acme create built doc
-ann 1 /organizations => acme create built doc
-ann x /organizations => acme create built doc"#;
+const POSTS: &str = r#"pivotal 1 /organizations/o/nodes => o nodes has doc
+pivotal 2 /organizations/o/nodes => o nodes has empty
+pivotal x /organizations/o/nodes => o nodes has empty
+ann 1 /organizations/o/nodes => o nodes has doc
+ 1 /organizations/o/nodes => o nodes has doc
+pivotal 2 /organizations => acme create has doc
+ann 1 /organizations => acme create has doc
+ann x /organizations => acme create has doc
+"#;
 
 type Words<'a> = (&'a str, &'a str, &'a str, &'a str);
 
@@ -175,12 +177,8 @@ fn place(place: &Place) -> (&str, Words<'_>) {
     }
 }
 
-fn mark(availability: Availability) -> &'static str {
-    match availability {
-        Availability::Built => "built",
-        Availability::Later => "later",
-        Availability::Lacking => "lacking",
-    }
+fn method(has_method: bool) -> &'static str {
+    if has_method { "has" } else { "lacks" }
 }
 
 fn body(body: &Body) -> &'static str {
@@ -193,30 +191,42 @@ fn body(body: &Body) -> &'static str {
     }
 }
 
-// The words, but for the empty ones, with a space between two.
-fn joined(alloc: Global, words: &[&str]) -> Result<String, NoMemory> {
-    let mut told = String::new(alloc);
+// Adds the words, but for the empty ones, with a space before each.
+fn add_words(told: &mut String, words: &[&str]) -> Result<(), NoMemory> {
     for word in words {
-        if !told.is_empty() && !word.is_empty() {
+        if !word.is_empty() {
             told.push(' ')?;
         }
         told.push_str(word)?;
     }
-    Ok(told)
+    Ok(())
 }
 
-// A request in words: the organisation, the route and the names in it, the mark, and the body.
-fn described(alloc: Global, request: Request) -> Result<String, NoMemory> {
+// Adds a request in words: the organisation, the route and the names in it, the mark, and the body.
+fn add_request(told: &mut String, request: &Request) -> Result<(), NoMemory> {
     let (org, (word, first, second, third)) = place(&request.place);
-    let mut told = joined(alloc, &[org, word, first, second, third])?;
-    for word in [mark(request.availability), body(&request.body)] {
-        told.push(' ')?;
-        told.push_str(word)?;
-    }
-    Ok(told)
+    add_words(told, &[org, word, first, second, third])?;
+    add_words(told, &[method(request.has_method), body(&request.body)])
 }
 
-// The request that parts of a message spell, in words.
+fn use_up(told: &mut String, request: Request) -> Result<(), NoMemory> {
+    add_request(told, &request)
+}
+
+fn body_in(alloc: Global, form: BodyForm, text: &str) -> Result<Body, NoMemory> {
+    let bytes = Vec::from_slice(alloc, text.as_bytes())?;
+    body_of(alloc, form, bytes)
+}
+
+// The request of a head and the text of its body.
+fn with_text(alloc: Global, head: Head, text: &str) -> Result<Request, NoMemory> {
+    match body_in(alloc, head.body_form(), text) {
+        Ok(body) => head.with_body(alloc, body),
+        Err(fault) => Err(fault),
+    }
+}
+
+// The request that parts of a message spell.
 fn spelled(
     alloc: Global,
     routes: &Routes,
@@ -224,53 +234,100 @@ fn spelled(
     caller: &str,
     version: HeaderValue<'_>,
     body: &str,
-) -> Result<String, NoMemory> {
+) -> Result<Request, NoMemory> {
     let caller = HeaderValue::One(caller.as_bytes());
     let (method, target) = (line.0.as_bytes(), line.1.as_bytes());
-    let head = Head::read(alloc, routes, method, target, caller, version, false)?;
-    let body = body_of(
-        alloc,
-        head.body_form(),
-        Vec::from_slice(alloc, body.as_bytes())?,
-    )?;
-    described(alloc, head.with_body(alloc, body)?)
+    match Head::read(alloc, routes, method, target, caller, version, false) {
+        Ok(head) => with_text(alloc, head, body),
+        Err(fault) => Err(fault),
+    }
 }
 
-// The request that a row of the first table sends, in words.
-fn requested(alloc: Global, routes: &Routes, sent: &str) -> Result<String, Fail> {
+fn add_spelled(
+    alloc: Global,
+    told: &mut String,
+    routes: &Routes,
+    line: (&str, &str),
+    caller: &str,
+    version: HeaderValue<'_>,
+    body: &str,
+) -> Result<(), NoMemory> {
+    match spelled(alloc, routes, line, caller, version, body) {
+        Ok(request) => use_up(told, request),
+        Err(fault) => Err(fault),
+    }
+}
+
+// Adds what a row of the first table sends, and the request that this spells.
+fn add_requested(
+    alloc: Global,
+    told: &mut String,
+    routes: &Routes,
+    sent: &str,
+) -> Result<(), Fail> {
     let (method, rest) = sent.split_once(' ').ok_or("a method")?;
     let (target, body) = rest.split_once(' ').unwrap_or((rest, ""));
     let line = (method, target);
-    Ok(spelled(alloc, routes, line, "pivotal", HeaderValue::Missing, body)?)
+    write!(told, "{sent} =>")?;
+    add_spelled(
+        alloc,
+        told,
+        routes,
+        line,
+        "pivotal",
+        HeaderValue::Missing,
+        body,
+    )?;
+    Ok(told.push_str("\n")?)
 }
 
-// The request that a row of the second table sends, in words.
-fn posted(alloc: Global, routes: &Routes, sent: &str) -> Result<String, Fail> {
+// Adds what a row of the second table sends, and the request that this spells.
+fn add_posted(alloc: Global, told: &mut String, routes: &Routes, sent: &str) -> Result<(), Fail> {
     let (caller, rest) = sent.split_once(' ').ok_or("a caller")?;
     let (version, target) = rest.split_once(' ').ok_or("a version")?;
     let version = HeaderValue::One(version.as_bytes());
     let body = "{\"name\":\"acme\"}";
-    Ok(spelled(alloc, routes, ("POST", target), caller, version, body)?)
+    write!(told, "{sent} =>")?;
+    add_spelled(alloc, told, routes, ("POST", target), caller, version, body)?;
+    Ok(told.push_str("\n")?)
 }
 
-#[test]
-fn a_request_names_its_place(rt: HostRuntime) -> Result<(), Fail> {
-    let routes = Routes::take(rt.alloc())?;
+// What a row sends.
+fn sent_in(row: &str) -> &str {
+    match row.split_once(" => ") {
+        Some((sent, _)) => sent,
+        None => row,
+    }
+}
+
+fn add_all_requested(alloc: Global, told: &mut String) -> Result<(), Fail> {
+    let routes = Routes::take(alloc)?;
     for row in REQUESTS.lines() {
-        let (sent, expected) = row.split_once(" => ").ok_or("a row")?;
-        let told = requested(rt.alloc(), &routes, sent)?;
-        assert_eq!(rt; told.as_str(), expected, "{sent}");
+        add_requested(alloc, told, &routes, sent_in(row))?;
+    }
+    Ok(())
+}
+
+fn add_all_posted(alloc: Global, told: &mut String) -> Result<(), Fail> {
+    let routes = Routes::take(alloc)?;
+    for row in POSTS.lines() {
+        add_posted(alloc, told, &routes, sent_in(row))?;
     }
     Ok(())
 }
 
 #[test]
+fn a_request_names_its_place(rt: HostRuntime) -> Result<(), Fail> {
+    let mut told = String::new(rt.alloc());
+    add_all_requested(rt.alloc(), &mut told)?;
+    assert_eq!(rt; told.as_str(), REQUESTS);
+    Ok(())
+}
+
+#[test]
 fn a_refused_body_is_not_read(rt: HostRuntime) -> Result<(), Fail> {
-    let routes = Routes::take(rt.alloc())?;
-    for row in POSTS.lines() {
-        let (sent, expected) = row.split_once(" => ").ok_or("a row")?;
-        let told = posted(rt.alloc(), &routes, sent)?;
-        assert_eq!(rt; told.as_str(), expected, "{sent}");
-    }
+    let mut told = String::new(rt.alloc());
+    add_all_posted(rt.alloc(), &mut told)?;
+    assert_eq!(rt; told.as_str(), POSTS);
     Ok(())
 }

@@ -25,7 +25,7 @@ use http_routes::{BodyForm, Head, body_of};
 use httparse::spans::{EMPTY_HEADER_SPAN, HeaderSpan, RequestSpans};
 use org_core::{Body, Parameters, Place, Request};
 use outside_core::Source;
-use route_table::{Availability, Routes, Verb};
+use route_table::{Routes, Verb};
 use std::alloc::Global;
 
 /// Reads the next message of a stream to its end, as the request that it spells. `None` is the end
@@ -183,7 +183,7 @@ fn lost(alloc: Global) -> Request
         api: None,
         verb: Verb::Other,
         place: Place::NoMemory,
-        availability: Availability::Lacking,
+        has_method: false,
         asked: Parameters::new(alloc),
         body: Body::Empty,
         close: false,

@@ -1,5 +1,5 @@
 //! Objects by their keys, which came since room was last made.
-ghost use Rattle.std.specs.Prelude.{◌≡◌, ◌&&◌, ◌||◌, List, ℕ, IfOk, OnOk, IfSome, IfNone, false, bytes_eq, is_some, option_copied};
+ghost use Rattle.std.specs.Prelude.{◌≡◌, ◌&&◌, ◌||◌, [], List, ℕ, IfOk, OnOk, IfSome, IfNone, false, bytes_eq, is_some, option_copied};
 ghost use Rattle.std.specs.List.{filter_map};
 ghost use Rattle.indexmap.specs.IndexMap.{get, insert_entry};
 ghost use Rattle.doc_tree.specs.Valid.{InOrder};
@@ -112,15 +112,23 @@ pub(crate) fn copy_late(alloc: Global, late: &Late) -> Result<Late, NoMemory>
     ensures { IfOk result (λ copy. copy.entries ≡ late.now.entries) }
 {
     let mut made = IndexMap::with_capacity_and_hasher(alloc, late.len(), *late.hasher())?;
+    add_copies(alloc, late, &mut made).and(Ok(made))
+}
+
+// Adds a copy of each object to a map that has none.
+fn add_copies(alloc: Global, late: &Late, made: &mut Late) -> Result<(), NoMemory>
+    requires { made.old.entries ≡ [] }
+    ensures { OnOk result (made.new.entries ≡ late.now.entries) }
+{
     for (key, tree) in late {
-        keep(&mut made, key.copy(alloc)?, tree.copy(alloc)?)?;
+        keep(made, key.copy(alloc)?, tree.copy(alloc)?)?;
     }
-    Ok(made)
+    Ok(())
 }
 
 fn keep(late: &mut Late, key: Key, tree: Tree) -> Result<(), NoMemory>
     ensures { OnOk result (late.new.entries ≡ insert_entry same_key late.old.entries key tree) }
 {
-    late.insert(key, tree)?;
+    drop(late.insert(key, tree)?);
     Ok(())
 }

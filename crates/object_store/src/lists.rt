@@ -1,5 +1,5 @@
 //! Access lists, by the keys of their objects.
-ghost use Rattle.std.specs.Prelude.{◌≡◌, ◌+◌, ◌<◌, ◌≤◌, IfOk, OnOk, option_copied};
+ghost use Rattle.std.specs.Prelude.{◌≡◌, ◌+◌, ◌<◌, ◌≤◌, [], IfOk, OnOk, option_copied};
 ghost use Rattle.std.specs.FinMap as finite;
 ghost use Rattle.indexmap.specs.IndexMap.{insert_entry};
 ghost use Rattle.access_lists.specs.Acls.{each_entry, without_actor, without_group};
@@ -123,15 +123,23 @@ fn copy_items(alloc: Global, items: &Hashed) -> Result<Hashed, NoMemory>
     ensures { IfOk result (λ copy. copy.entries ≡ items.now.entries) }
 {
     let mut made = IndexMap::with_capacity_and_hasher(alloc, items.len(), *items.hasher())?;
+    add_copies(alloc, items, &mut made).and(Ok(made))
+}
+
+// Adds a copy of each list to a map that has none.
+fn add_copies(alloc: Global, items: &Hashed, made: &mut Hashed) -> Result<(), NoMemory>
+    requires { made.old.entries ≡ [] }
+    ensures { OnOk result (made.new.entries ≡ items.now.entries) }
+{
     for (key, acl) in items {
-        keep(&mut made, key.copy(alloc)?, acl.copy(alloc)?)?;
+        keep(made, key.copy(alloc)?, acl.copy(alloc)?)?;
     }
-    Ok(made)
+    Ok(())
 }
 
 fn keep(items: &mut Hashed, key: Key, acl: Acl) -> Result<(), NoMemory>
     ensures { OnOk result (items.new.entries ≡ insert_entry same_key items.old.entries key acl) }
 {
-    items.insert(key, acl)?;
+    drop(items.insert(key, acl)?);
     Ok(())
 }

@@ -143,7 +143,7 @@ impl Objects {
         ensures spare { self.old.spare ≤ self.new.spare + 1 }
     {
         let before = take_from(&mut self.late, &mut self.shelves, &key);
-        let _ = self.late.insert(key, tree);
+        drop(self.late.insert(key, tree));
         before
     }
 

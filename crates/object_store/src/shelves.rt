@@ -1,5 +1,5 @@
 //! Shelves, each with objects by the names that they have on it.
-ghost use Rattle.std.specs.Prelude.{IsTrue, true, false, ◌≡◌, ◌&&◌, ◌||◌, ◌<◌, List, ℕ, None, Some, IfOk, OnOk, bytes_eq, cond, is_some, option_copied, string_bytes};
+ghost use Rattle.std.specs.Prelude.{IsTrue, true, false, ◌≡◌, ◌&&◌, ◌||◌, ◌<◌, [], List, ℕ, None, Some, IfOk, OnOk, bytes_eq, cond, is_some, option_copied, string_bytes};
 ghost use Rattle.indexmap.specs.IndexMap.{get_by_text};
 ghost use Rattle.object_store.specs.Kept.{HasRoom, has, on_shelf, tree_on};
 
@@ -108,8 +108,9 @@ fn add_shelf(
     ensures same { (other : List ℕ) → (its : List ℕ) → on_shelf shelves.new other its ≡ on_shelf shelves.old other its }
     ensures room { OnOk result (HasRoom shelves.new word.now) }
 {
+    let word = String::from_str(alloc, word)?;
     let shelf = IndexMap::with_capacity_and_hasher(alloc, 1, hasher)?;
-    shelves.insert(String::from_str(alloc, word)?, shelf)?;
+    drop(shelves.insert(word, shelf)?);
     Ok(())
 }
 
@@ -120,7 +121,7 @@ pub(crate) fn put_on(shelves: &mut Shelves, word: &str, name: String, tree: Tree
         on_shelf shelves.new other its ≡ cond (bytes_eq word.now other && bytes_eq (string_bytes name) its) (Some tree) (on_shelf shelves.old other its) }
 {
     if let Some(shelf) = shelves.get_mut(word) {
-        let _ = shelf.insert(name, tree);
+        drop(shelf.insert(name, tree));
     }
 }
 
@@ -157,32 +158,53 @@ pub(crate) fn copy_shelves(
     ensures { IfOk result (λ copy. (word : List ℕ) → (name : List ℕ) → on_shelf copy word name ≡ on_shelf shelves.now word name) }
 {
     let mut made = IndexMap::with_capacity_and_hasher(alloc, shelves.len(), hasher)?;
+    add_shelves(alloc, hasher, shelves, &mut made).and(Ok(made))
+}
+
+// Adds a copy of each shelf where there are none.
+fn add_shelves(
+    alloc: Global,
+    hasher: RandomState,
+    shelves: &Shelves,
+    made: &mut Shelves,
+) -> Result<(), NoMemory>
+    requires { made.old.entries ≡ [] }
+    ensures { OnOk result ((word : List ℕ) → (name : List ℕ) → on_shelf made.new word name ≡ on_shelf shelves.now word name) }
+{
     for (word, shelf) in shelves {
-        let shelf = copy_shelf(alloc, hasher, shelf)?;
-        keep_shelf(&mut made, String::from_str(alloc, word.as_str())?, shelf)?;
+        let word = String::from_str(alloc, word.as_str())?;
+        keep_shelf(made, word, copy_shelf(alloc, hasher, shelf)?)?;
     }
-    Ok(made)
+    Ok(())
 }
 
 fn copy_shelf(alloc: Global, hasher: RandomState, shelf: &Shelf) -> Result<Shelf, NoMemory>
     ensures { IfOk result (λ copy. (name : List ℕ) → get_by_text copy name ≡ get_by_text shelf.now name) }
 {
     let mut made = IndexMap::with_capacity_and_hasher(alloc, shelf.len(), hasher)?;
+    add_copies(alloc, shelf, &mut made).and(Ok(made))
+}
+
+// Adds a copy of each object to a shelf that has none.
+fn add_copies(alloc: Global, shelf: &Shelf, made: &mut Shelf) -> Result<(), NoMemory>
+    requires { made.old.entries ≡ [] }
+    ensures { OnOk result ((name : List ℕ) → get_by_text made.new name ≡ get_by_text shelf.now name) }
+{
     for (name, tree) in shelf {
         keep(
-            &mut made,
+            made,
             String::from_str(alloc, name.as_str())?,
             tree.copy(alloc)?,
         )?;
     }
-    Ok(made)
+    Ok(())
 }
 
 fn keep(shelf: &mut Shelf, name: String, tree: Tree) -> Result<(), NoMemory>
     ensures { OnOk result ((other : List ℕ) →
         get_by_text shelf.new other ≡ cond (bytes_eq (string_bytes name) other) (Some tree) (get_by_text shelf.old other)) }
 {
-    shelf.insert(name, tree)?;
+    drop(shelf.insert(name, tree)?);
     Ok(())
 }
 
@@ -190,6 +212,6 @@ fn keep_shelf(shelves: &mut Shelves, word: String, shelf: Shelf) -> Result<(), N
     ensures { OnOk result ((other : List ℕ) →
         get_by_text shelves.new other ≡ cond (bytes_eq (string_bytes word) other) (Some shelf) (get_by_text shelves.old other)) }
 {
-    shelves.insert(word, shelf)?;
+    drop(shelves.insert(word, shelf)?);
     Ok(())
 }

@@ -37,63 +37,62 @@ fn reads<L: Ledger>(objects: &Objects, node: &Key, blank: Blank) -> bool
 }
 
 fn put(alloc: Global, objects: &mut Objects, kind: Kind, name: &str) -> Result<(), NoMemory> {
-    let key = key(alloc, kind, name)?;
     objects.reserve(1)?;
-    objects.put(key, Tree::Null);
+    objects.put(key(alloc, kind, name)?, Tree::Null);
     Ok(())
 }
 
 fn put_two(alloc: Global, objects: &mut Objects) -> Result<(), NoMemory> {
+    objects.reserve(2)?;
     let item = key(alloc, Kind::Item, "keys/a")?;
     let node = key(alloc, Kind::Node, "db")?;
-    objects.reserve(2)?;
     objects.put(item, Tree::Null);
     objects.put(node, Tree::Null);
     Ok(())
 }
 
 fn fill(alloc: Global, objects: &mut Objects) -> Result<(), NoMemory> {
-    for (kind, name) in [
-        (Kind::Node, "web2"),
-        (Kind::Role, "web1"),
-        (Kind::Item, "users/a/b"),
-        (Kind::Item, "keys/b"),
-        (Kind::Node, "web1"),
-        (Kind::Item, "loose"),
-        (Kind::Item, "users/a"),
-    ] {
-        put(alloc, objects, kind, name)?;
-    }
+    put(alloc, objects, Kind::Node, "web2")?;
+    put(alloc, objects, Kind::Role, "web1")?;
+    put(alloc, objects, Kind::Item, "users/a/b")?;
+    put(alloc, objects, Kind::Item, "keys/b")?;
+    put(alloc, objects, Kind::Node, "web1")?;
+    put(alloc, objects, Kind::Item, "loose")?;
+    put(alloc, objects, Kind::Item, "users/a")?;
     put_two(alloc, objects)
 }
 
-fn take_some(alloc: Global, objects: &mut Objects) -> Result<(), NoMemory> {
-    for (kind, name) in [
-        (Kind::Node, "web1"),
-        (Kind::Item, "keys/a"),
-        (Kind::Item, "users/a/b"),
-    ] {
-        let key = key(alloc, kind, name)?;
-        objects.take_out(&key);
-    }
+fn take(alloc: Global, objects: &mut Objects, kind: Kind, name: &str) -> Result<(), NoMemory> {
+    let key = key(alloc, kind, name)?;
+    objects.take_out(&key);
     Ok(())
 }
 
-fn is(tree: Option<Tree>, other: Tree) -> bool {
+fn take_some(alloc: Global, objects: &mut Objects) -> Result<(), NoMemory> {
+    take(alloc, objects, Kind::Node, "web1")?;
+    take(alloc, objects, Kind::Item, "keys/a")?;
+    take(alloc, objects, Kind::Item, "users/a/b")
+}
+
+fn is_null(tree: &Option<Tree>) -> bool {
+    matches!(tree, Some(Tree::Null))
+}
+
+fn is_five(tree: &Option<Tree>) -> bool {
     match tree {
-        Some(tree) => tree.same(&other),
-        None => false,
+        Some(Tree::Whole(number)) => *number == Number::from(5u64),
+        _ => false,
     }
 }
 
 /// Whether an object that is put in twice is given back as it was.
 fn gives_back(alloc: Global, objects: &mut Objects) -> Result<bool, NoMemory> {
+    objects.reserve(1)?;
     let node = key(alloc, Kind::Node, "web1")?;
     let same = node.copy(alloc)?;
-    objects.reserve(1)?;
     let before = objects.put(same, Tree::Whole(Number::from(5u64)));
     let after = objects.take_out(&node);
-    Ok(is(before, Tree::Null) && is(after, Tree::Whole(Number::from(5u64))))
+    Ok(is_null(&before) && is_five(&after))
 }
 
 fn looks(alloc: Global, objects: &Objects) -> Result<bool, NoMemory> {
@@ -101,25 +100,43 @@ fn looks(alloc: Global, objects: &Objects) -> Result<bool, NoMemory> {
     Ok(reads::<Brand>(objects, &node, Blank::new(1)))
 }
 
-fn add(text: &mut String, names: Texts) -> Result<(), NoMemory> {
+fn add(text: &mut String, names: &Texts) -> Result<(), NoMemory> {
     for name in names.as_slice() {
-        text.push_str(name.as_str())?;
-        text.push_str(" ")?;
+        write!(text, "{name} ")?;
     }
-    text.push_str("| ")?;
-    Ok(())
+    Ok(text.push_str("| ")?)
+}
+
+fn list_kind(
+    alloc: Global,
+    objects: &Objects,
+    text: &mut String,
+    kind: Kind,
+) -> Result<(), NoMemory> {
+    let names = objects.names(alloc, kind)?;
+    add(text, &names)
+}
+
+fn list_bag(
+    alloc: Global,
+    objects: &Objects,
+    text: &mut String,
+    bag: &str,
+) -> Result<(), NoMemory> {
+    let ids = objects.ids(alloc, bag)?;
+    add(text, &ids)
 }
 
 /// The nodes, the roles and the items, and then the ids of some bags' items.
 fn list(alloc: Global, objects: &Objects, text: &mut String) -> Result<(), NoMemory> {
-    for kind in [Kind::Node, Kind::Role, Kind::Item] {
-        add(text, objects.names(alloc, kind)?)?;
-    }
-    for bag in ["keys", "users", "users/a", "none"] {
-        add(text, objects.ids(alloc, bag)?)?;
-    }
-    text.push_str("\n")?;
-    Ok(())
+    list_kind(alloc, objects, text, Kind::Node)?;
+    list_kind(alloc, objects, text, Kind::Role)?;
+    list_kind(alloc, objects, text, Kind::Item)?;
+    list_bag(alloc, objects, text, "keys")?;
+    list_bag(alloc, objects, text, "users")?;
+    list_bag(alloc, objects, text, "users/a")?;
+    list_bag(alloc, objects, text, "none")?;
+    Ok(text.push_str("\n")?)
 }
 
 fn list_copy(alloc: Global, objects: &Objects, text: &mut String) -> Result<(), NoMemory> {
@@ -127,39 +144,72 @@ fn list_copy(alloc: Global, objects: &Objects, text: &mut String) -> Result<(), 
     list(alloc, &copy, text)
 }
 
+fn list_both(alloc: Global, objects: &Objects, text: &mut String) -> Result<(), NoMemory> {
+    list(alloc, objects, text)?;
+    list_copy(alloc, objects, text)
+}
+
 /// What is listed while two objects come late, and of a copy; once they are on their shelves, and of
 /// a copy; and after some are taken out.
+fn add_history(alloc: Global, objects: &mut Objects, text: &mut String) -> Result<(), NoMemory> {
+    fill(alloc, objects)?;
+    list_both(alloc, objects, text)?;
+    objects.reserve(1)?;
+    list_both(alloc, objects, text)?;
+    take_some(alloc, objects)?;
+    list(alloc, objects, text)
+}
+
 fn history(alloc: Global, objects: &mut Objects) -> Result<String, NoMemory> {
     let mut text = String::new(alloc);
-    fill(alloc, objects)?;
-    list(alloc, objects, &mut text)?;
-    list_copy(alloc, objects, &mut text)?;
-    objects.reserve(1)?;
-    list(alloc, objects, &mut text)?;
-    list_copy(alloc, objects, &mut text)?;
-    take_some(alloc, objects)?;
-    list(alloc, objects, &mut text)?;
+    add_history(alloc, objects, &mut text)?;
     Ok(text)
+}
+
+fn history_told(alloc: Global, hasher: RandomState) -> Result<String, NoMemory> {
+    let mut objects = Objects::none(alloc, hasher);
+    history(alloc, &mut objects)
+}
+
+fn are_apart(node: &Key, role: &Key) -> bool {
+    node < role && node != role && node.is_of(Kind::Node) && !node.is_of(Kind::Role)
+}
+
+fn keys_are_apart(alloc: Global) -> Result<bool, NoMemory> {
+    let node = key(alloc, Kind::Node, "web1")?;
+    let role = key(alloc, Kind::Role, "web1")?;
+    Ok(are_apart(&node, &role))
+}
+
+fn has_the_rest(objects: &Objects) -> bool {
+    !objects.has(Kind::Node, "web1")
+        && objects.has(Kind::Role, "web1")
+        && objects.has_item("users/a", "b")
+        && !objects.has_item("users", "b")
+}
+
+fn keeps(alloc: Global, objects: &mut Objects) -> Result<bool, NoMemory> {
+    fill(alloc, objects)?;
+    let looked = looks(alloc, objects)?;
+    let given = gives_back(alloc, objects)?;
+    Ok(looked && given && has_the_rest(objects))
+}
+
+fn objects_are_kept(alloc: Global, hasher: RandomState) -> Result<bool, NoMemory> {
+    let mut objects = Objects::none(alloc, hasher);
+    keeps(alloc, &mut objects)
 }
 
 #[test]
 fn objects_are_kept_by_kind_and_name(rt: HostRuntime) -> Result<(), Fail> {
-    let node = key(rt.alloc(), Kind::Node, "web1")?;
-    let role = key(rt.alloc(), Kind::Role, "web1")?;
-    assert!(rt; node < role && node != role);
-    assert!(rt; node.is_of(Kind::Node) && !node.is_of(Kind::Role));
-    let mut objects = Objects::none(rt.alloc(), RandomState::new(&rt)?);
-    fill(rt.alloc(), &mut objects)?;
-    assert!(rt; looks(rt.alloc(), &objects)? && gives_back(rt.alloc(), &mut objects)?);
-    assert!(rt; !objects.has(Kind::Node, "web1") && objects.has(Kind::Role, "web1"));
-    assert!(rt; objects.has_item("users/a", "b") && !objects.has_item("users", "b"));
+    assert!(rt; keys_are_apart(rt.alloc())?);
+    assert!(rt; objects_are_kept(rt.alloc(), RandomState::new(&rt)?)?);
     Ok(())
 }
 
 #[test]
 fn a_listing_shows_one_kind_or_bag(rt: HostRuntime) -> Result<(), Fail> {
-    let mut objects = Objects::none(rt.alloc(), RandomState::new(&rt)?);
-    let text = history(rt.alloc(), &mut objects)?;
+    let text = history_told(rt.alloc(), RandomState::new(&rt)?)?;
     assert_eq!(rt;
         text.as_str(),
         "db web1 web2 | web1 | keys/a keys/b loose users/a users/a/b | a b | a a/b | b | | \n\
@@ -198,7 +248,8 @@ fn kind_of(word: &str) -> Kind {
 // The starting list of nodes with a creator.
 fn list_of(alloc: Global, creator: &str) -> Result<Acl, NoMemory> {
     let creator = Text::from_str(alloc, creator)?;
-    starting_list(alloc, Container::Nodes)?.with_actor(alloc, &creator)
+    let list = starting_list(alloc, Container::Nodes)?;
+    list.with_actor(alloc, &creator)
 }
 
 fn creator(acl: &Acl) -> &str {
@@ -208,14 +259,14 @@ fn creator(acl: &Acl) -> &str {
     }
 }
 
-fn add_list(told: &mut String, acl: Option<Acl>) -> Result<(), NoMemory> {
+fn add_list(told: &mut String, acl: &Option<Acl>) -> Result<(), NoMemory> {
     match acl {
-        Some(acl) => Ok(told.push_str(creator(&acl))?),
+        Some(acl) => Ok(told.push_str(creator(acl))?),
         None => Ok(told.push_str("none")?),
     }
 }
 
-fn add_body(told: &mut String, tree: Option<Tree>) -> Result<(), NoMemory> {
+fn add_body(told: &mut String, tree: &Option<Tree>) -> Result<(), NoMemory> {
     match tree {
         Some(Tree::Words(text)) => Ok(told.push_str(text.as_str())?),
         _ => Ok(told.push_str("none")?),
@@ -231,10 +282,10 @@ fn put_body(
     rest: &str,
 ) -> Result<(), NoMemory> {
     let (name, body) = first_word(rest);
+    objects.reserve(1)?;
     let key = key(alloc, kind, name)?;
     let body = Text::from_str(alloc, body)?;
-    objects.reserve(1)?;
-    add_body(told, objects.put(key, Tree::Words(body)))
+    add_body(told, &objects.put(key, Tree::Words(body)))
 }
 
 // `list KIND NAME CREATOR`, and the creator in the list that was there.
@@ -246,34 +297,44 @@ fn put_list(
     rest: &str,
 ) -> Result<(), NoMemory> {
     let (name, creator) = first_word(rest);
+    objects.reserve(1)?;
     let key = key(alloc, kind, name)?;
     let acl = list_of(alloc, creator)?;
-    objects.reserve(1)?;
-    add_list(told, objects.put_acl(key, acl))
+    add_list(told, &objects.put_acl(key, acl))
 }
 
-// An object and its list, for which room is made once.
-fn put_with(objects: &mut Objects, key: Key, same: Key, acl: Acl) -> Result<(), NoMemory> {
+// `both KIND NAME CREATOR`, an object and its list, for which room is made once.
+fn put_both(alloc: Global, objects: &mut Objects, kind: Kind, rest: &str) -> Result<(), NoMemory> {
+    let (name, creator) = first_word(rest);
     objects.reserve(2)?;
-    objects.put(key, Tree::Null);
-    objects.put_acl(same, acl);
+    objects.put(key(alloc, kind, name)?, Tree::Null);
+    let same = key(alloc, kind, name)?;
+    objects.put_acl(same, list_of(alloc, creator)?);
     Ok(())
 }
 
-// `both KIND NAME CREATOR`
-fn put_both(alloc: Global, objects: &mut Objects, kind: Kind, rest: &str) -> Result<(), NoMemory> {
-    let (name, creator) = first_word(rest);
+// `take KIND NAME`, and the body that was there.
+fn take_body(
+    alloc: Global,
+    objects: &mut Objects,
+    told: &mut String,
+    kind: Kind,
+    name: &str,
+) -> Result<(), NoMemory> {
     let key = key(alloc, kind, name)?;
-    let same = key.copy(alloc)?;
-    put_with(objects, key, same, list_of(alloc, creator)?)
+    add_body(told, &objects.take_out(&key))
 }
 
-fn take_body(objects: &mut Objects, told: &mut String, key: &Key) -> Result<(), NoMemory> {
-    add_body(told, objects.take_out(key))
-}
-
-fn take_list(objects: &mut Objects, told: &mut String, key: &Key) -> Result<(), NoMemory> {
-    add_list(told, objects.take_acl(key))
+// `unlist KIND NAME`, and the creator in the list that was there.
+fn take_list(
+    alloc: Global,
+    objects: &mut Objects,
+    told: &mut String,
+    kind: Kind,
+    name: &str,
+) -> Result<(), NoMemory> {
+    let key = key(alloc, kind, name)?;
+    add_list(told, &objects.take_acl(&key))
 }
 
 // `forget actor NAME` or `forget group NAME`, of every list.
@@ -299,10 +360,17 @@ fn deed(
     match verb {
         "put" => put_body(alloc, objects, told, kind, rest),
         "list" => put_list(alloc, objects, told, kind, rest),
-        "take" => take_body(objects, told, &key(alloc, kind, rest)?),
-        "unlist" => take_list(objects, told, &key(alloc, kind, rest)?),
+        "take" => take_body(alloc, objects, told, kind, rest),
+        "unlist" => take_list(alloc, objects, told, kind, rest),
         "forget" => forget(alloc, objects, word, rest),
         _ => put_both(alloc, objects, kind, rest),
+    }
+}
+
+fn add_creator(told: &mut String, body: &str, acl: Option<&Acl>) -> Result<(), NoMemory> {
+    match acl {
+        Some(acl) => Ok(write!(told, " {body}/{}", creator(acl))?),
+        None => Ok(write!(told, " {body}/-")?),
     }
 }
 
@@ -315,16 +383,8 @@ fn add_state(
     name: &str,
 ) -> Result<(), NoMemory> {
     let key = key(alloc, kind, name)?;
-    told.push_str(if objects.has(kind, name) {
-        " body/"
-    } else {
-        " -/"
-    })?;
-    match objects.acl(&key) {
-        Some(acl) => told.push_str(creator(acl))?,
-        None => told.push_str("-")?,
-    }
-    Ok(())
+    let body = if objects.has(kind, name) { "body" } else { "-" };
+    add_creator(told, body, objects.acl(&key))
 }
 
 fn add_states(alloc: Global, told: &mut String, objects: &Objects) -> Result<(), NoMemory> {
@@ -393,15 +453,18 @@ forget actor gu -> : body/gus -/- -/cat -/cat
 forget actor cat -> : body/gus -/- -/nobody -/nobody
 ";
 
-fn lists(alloc: Global, objects: &mut Objects) -> Result<String, NoMemory> {
-    let mut told = String::new(alloc);
+fn add_rows(alloc: Global, told: &mut String, objects: &mut Objects) -> Result<(), NoMemory> {
     for row in LISTS.lines() {
-        let asked = asked(row);
-        told.push_str(asked)?;
-        told.push_str(" -> ")?;
-        add_row(alloc, &mut told, objects, asked)?;
+        write!(told, "{} -> ", asked(row))?;
+        add_row(alloc, told, objects, asked(row))?;
         told.push_str("\n")?;
     }
+    Ok(())
+}
+
+fn lists(alloc: Global, objects: &mut Objects) -> Result<String, NoMemory> {
+    let mut told = String::new(alloc);
+    add_rows(alloc, &mut told, objects)?;
     Ok(told)
 }
 

@@ -5,7 +5,7 @@ ghost use Rattle.org_core.specs.Bodies as bodies;
 
 use crate::routes::Route;
 use doc_tree::{Listed, Text, Tree};
-use route_table::{Availability, Verb};
+use route_table::Verb;
 use sandboxes::Hashed;
 
 /// Where a request goes.
@@ -90,9 +90,9 @@ pub struct Request {
     pub verb: Verb,
     /// Of what it is asked.
     pub place: Place,
-    /// What the table of routes says of the path with this method. Of a path that the table hasn't
-    /// it is `Lacking`, and nothing looks at it.
-    pub availability: Availability,
+    /// Whether the path has the method in the table of routes. A path that the table hasn't has none, and nothing
+    /// looks at it.
+    pub has_method: bool,
     /// The parameters of the query. One that stands twice counts by its first.
     pub asked: Parameters,
     /// What comes with it.

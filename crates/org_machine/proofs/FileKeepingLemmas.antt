@@ -32,6 +32,8 @@ use Rattle.object_routes.proofs.ShelflessLemmas.{data_put_none, objects_put_none
 use Rattle.object_routes.specs.DataBags.{data_rules}
 use Rattle.object_routes.specs.Objects.{objects_rules}
 use Rattle.object_routes.specs.Organisations.{organisation_rules}
+use Rattle.policy_routes.proofs.FileKeepingLemmas.{policies_keep_files}
+use Rattle.policy_routes.specs.PolicyRules.{policy_rules}
 use Rattle.search_routes.proofs.SearchLemmas.{searches_put_none}
 use Rattle.search_routes.specs.SearchRules.{search_rules}
 use Rattle.org_machine.specs.Heads.{head_refusal}
@@ -72,7 +74,7 @@ at_route_files context (Objects collection route) request meets = answered_files
 at_route_files context (Data route) request meets = answered_files data_rules (shelfless_keeps data_rules data_put_none) context route request meets
 at_route_files context (Access route) request meets = answered_files access_rules (shelfless_keeps access_rules access_puts_none) context route request meets
 at_route_files context (Cookbooks route) request meets = answered_files cookbook_rules cookbooks_keep_files context route request meets
-at_route_files context (Policies route) request meets = meets
+at_route_files context (Policies route) request meets = answered_files policy_rules policies_keep_files context route request meets
 at_route_files context (Search route) request meets = answered_files search_rules (shelfless_keeps search_rules searches_put_none) context route request meets
 
 at_organisations_files : (state : FullState) (caller : Option (List ℕ)) (verb : Verb) (body : Body) → MeetsFileConditions state → LeadsTo [] state (at_organisations caller verb body)

@@ -28,7 +28,9 @@ use Rattle.object_routes.proofs.KeepingLemmas.{organisations_keep, objects_keep,
 use Rattle.object_routes.specs.DataBags.{data_rules}
 use Rattle.object_routes.specs.Objects.{objects_rules}
 use Rattle.object_routes.specs.Organisations.{organisation_rules}
+use Rattle.policy_routes.proofs.KeepingLemmas.{policies_keep}
 use Rattle.search_routes.proofs.SearchLemmas.{searches_keep}
+use Rattle.policy_routes.specs.PolicyRules.{policy_rules}
 use Rattle.search_routes.specs.SearchRules.{search_rules}
 use Rattle.org_machine.proofs.AnsweredLemmas.{unless_keeps, answered_keeps}
 use Rattle.org_machine.specs.Heads.{head_refusal}
@@ -55,7 +57,7 @@ at_route_keeps context (Objects collection route) request meets free =
 at_route_keeps context (Data route) request meets free = answered_keeps Someone data_rules data_keep context route request meets (known_at (Data route) context free refl)
 at_route_keeps context (Access route) request meets free = answered_keeps Someone access_rules access_keep context route request meets (known_at (Access route) context free refl)
 at_route_keeps context (Cookbooks route) request meets free = answered_keeps Someone cookbook_rules cookbooks_keep context route request meets (known_at (Cookbooks route) context free refl)
-at_route_keeps context (Policies route) request meets free = meets
+at_route_keeps context (Policies route) request meets free = answered_keeps Someone policy_rules policies_keep context route request meets (known_at (Policies route) context free refl)
 at_route_keeps context (Search route) request meets free = answered_keeps Someone search_rules searches_keep context route request meets (known_at (Search route) context free refl)
 
 organisations_keep_it : (state : FullState) (caller : Option (List ℕ)) (verb : Verb) (body : Body) → MeetsConditions state.state → LeadsToConditions state.state (at_organisations caller verb body)

@@ -30,7 +30,9 @@ use Rattle.object_routes.proofs.OrderlyLemmas.{organisations_orderly, objects_or
 use Rattle.object_routes.specs.DataBags.{data_rules}
 use Rattle.object_routes.specs.Objects.{objects_rules}
 use Rattle.object_routes.specs.Organisations.{organisation_rules}
+use Rattle.policy_routes.proofs.OrderlyLemmas.{policies_orderly}
 use Rattle.search_routes.proofs.SearchLemmas.{searches_orderly}
+use Rattle.policy_routes.specs.PolicyRules.{policy_rules}
 use Rattle.search_routes.specs.SearchRules.{search_rules}
 use Rattle.org_machine.specs.Heads.{head_refusal}
 use Rattle.org_machine.specs.Order.{absence_refusal, done_by, permitted, found, by_operation, answered_by}
@@ -59,7 +61,7 @@ at_route_orderly context (Objects collection route) request = answered_orderly (
 at_route_orderly context (Data route) request = answered_orderly data_rules data_orderly context route request
 at_route_orderly context (Access route) request = answered_orderly access_rules access_orderly context route request
 at_route_orderly context (Cookbooks route) request = answered_orderly cookbook_rules cookbooks_orderly context route request
-at_route_orderly context (Policies route) request = refl
+at_route_orderly context (Policies route) request = answered_orderly policy_rules policies_orderly context route request
 at_route_orderly context (Search route) request = answered_orderly search_rules searches_orderly context route request
 
 organisations_orderly_too : (caller : Option (List ℕ)) (verb : Verb) (body : Body) → MakesOrderly (at_organisations caller verb body)

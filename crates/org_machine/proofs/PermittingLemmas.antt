@@ -33,6 +33,8 @@ use Rattle.org_core.specs.Requests.{is_operator}
 use Rattle.org_core.specs.Rules.{Rules}
 use Rattle.org_core.specs.FullStates.{FullState}
 use Rattle.org_core.specs.States.{list_in, membership_of}
+use Rattle.policy_routes.proofs.PlainLemmas.{policies_never_forbid}
+use Rattle.policy_routes.specs.PolicyRules.{policy_rules}
 use Rattle.search_routes.proofs.PlainLemmas.{searches_never_forbid}
 use Rattle.search_routes.specs.SearchRules.{search_rules}
 use Rattle.org_machine.specs.Permitting.{IsListed, IsPermitted, LacksOne, IsForbiddenBy, IsForbiddenAt, IsForbiddenIn, IsForbidden}
@@ -45,7 +47,7 @@ use Rattle.object_routes.specs.DataBags.{data_rules}
 use Rattle.object_routes.specs.Objects.{objects_rules}
 use Rattle.object_routes.specs.Organisations.{organisation_rules}
 use Rattle.org_machine.specs.Alone.{Exchange, RunsAlone, asked_in, replies_alone}
-use Rattle.org_machine.specs.Heads.{head_refusal, is_taken, is_not_built, is_no_route, lacks_method}
+use Rattle.org_machine.specs.Heads.{head_refusal, is_left_out, is_no_route, is_taken, lacks_method}
 use Rattle.org_machine.specs.Marks.{mark_of, after, answer}
 use Rattle.org_machine.specs.Order.{absence_refusal, done_by, permitted, found, operated, by_operation, answered_by}
 use Rattle.org_machine.specs.Permitting.{IsForbiddenListing, IsPermittedExactly, ArePermittedExactly}
@@ -226,7 +228,7 @@ at_route_403 context (Objects collection route) request = answered_403 (objects_
 at_route_403 context (Data route) request = answered_403 data_rules data_never_forbid context route request
 at_route_403 context (Access route) request = answered_403 access_rules access_never_forbids context route request
 at_route_403 context (Cookbooks route) request = answered_403 cookbook_rules cookbooks_never_forbid context route request
-at_route_403 context (Policies route) request = ((λ is. not_403 501 refl is), (λ none. absurd none))
+at_route_403 context (Policies route) request = answered_403 policy_rules policies_never_forbid context route request
 at_route_403 context (Search route) request = answered_403 search_rules searches_never_forbid context route request
 
 -- ---- what stands before
@@ -249,9 +251,9 @@ head_plain : (request : Request) → IfSome (head_refusal request) IsPlain
 head_plain request =
     first_plain _ _ (refuses_plain TooLarge (is_too_long request.body) tt)
     (first_plain _ _ (refuses_plain VersionNotTaken (not (is_taken request.api)) tt)
-    (first_plain _ _ (refuses_plain NotImplemented (is_not_built request.place request.availability) tt)
+    (first_plain _ _ (refuses_plain NotImplemented (is_left_out request.place) tt)
     (first_plain _ _ (refuses_plain NotFound (is_no_route request.place) tt)
-    (first_plain _ _ (refuses_plain NotAllowed (lacks_method request.place request.availability) tt) tt))))
+    (first_plain _ _ (refuses_plain NotAllowed (lacks_method request.place request.has_method) tt) tt))))
 
 -- ---- at a place
 

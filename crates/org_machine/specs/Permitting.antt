@@ -24,6 +24,7 @@ use Rattle.cookbook_routes.specs.CookbookRules.{cookbook_rules}
 use Rattle.object_routes.specs.DataBags.{data_rules}
 use Rattle.object_routes.specs.Objects.{objects_rules}
 use Rattle.object_routes.specs.Organisations.{organisation_rules}
+use Rattle.policy_routes.specs.PolicyRules.{policy_rules}
 use Rattle.search_routes.specs.SearchRules.{search_rules}
 use Rattle.org_machine.specs.Alone.{Exchange}
 use Rattle.org_machine.specs.Heads.{head_refusal}
@@ -60,7 +61,7 @@ IsForbiddenAt context (Objects collection route) request = IsForbiddenBy (object
 IsForbiddenAt context (Data route) request = IsForbiddenBy data_rules context route request
 IsForbiddenAt context (Access route) request = IsForbiddenBy access_rules context route request
 IsForbiddenAt context (Cookbooks route) request = IsForbiddenBy cookbook_rules context route request
-IsForbiddenAt context (Policies route) request = ⊥
+IsForbiddenAt context (Policies route) request = IsForbiddenBy policy_rules context route request
 IsForbiddenAt context (Search route) request = IsForbiddenBy search_rules context route request
 
 -- anybody but the operator may not list the organisations

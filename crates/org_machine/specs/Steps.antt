@@ -26,18 +26,19 @@ use Rattle.cookbook_routes.specs.CookbookRules.{cookbook_rules}
 use Rattle.object_routes.specs.DataBags.{data_rules}
 use Rattle.object_routes.specs.Objects.{objects_rules}
 use Rattle.object_routes.specs.Organisations.{organisation_rules}
+use Rattle.policy_routes.specs.PolicyRules.{policy_rules}
 use Rattle.search_routes.specs.SearchRules.{search_rules}
 use Rattle.org_machine.specs.Heads.{head_refusal}
 use Rattle.org_machine.specs.Order.{absence_refusal, answered_by}
 
--- a request at a route, by the rules of the route's group. What isn't built is refused by its head
+-- a request at a route, by the rules of the route's group
 abbrev pub at_route : Context → Route → Request → Decided
 at_route context (Organisation route) request = answered_by organisation_rules context route request
 at_route context (Objects collection route) request = answered_by (objects_rules collection) context route request
 at_route context (Data route) request = answered_by data_rules context route request
 at_route context (Access route) request = answered_by access_rules context route request
 at_route context (Cookbooks route) request = answered_by cookbook_rules context route request
-at_route context (Policies route) request = refuse NotImplemented
+at_route context (Policies route) request = answered_by policy_rules context route request
 at_route context (Search route) request = answered_by search_rules context route request
 
 -- what is created needn't be there

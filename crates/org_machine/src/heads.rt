@@ -4,7 +4,6 @@ ghost use Rattle.std.specs.Prelude.{◌≡◌};
 ghost use Rattle.org_machine.specs.Heads as spec;
 
 use org_core::{Place, Refusal, Request};
-use route_table::Availability;
 
 /// The first refusal of a request that its head alone gives, and a body that is too long: 413, 406, 501,
 /// 404 where no route has the path, and 405, in this order. Nothing else of the body is looked at, and
@@ -18,13 +17,13 @@ pub fn head_refusal(request: &Request) -> Option<Refusal>
     if !is_taken(request.api) {
         return Some(Refusal::VersionNotTaken);
     }
-    if is_not_built(&request.place, request.availability) {
+    if is_left_out(&request.place) {
         return Some(Refusal::NotImplemented);
     }
     if is_no_route(&request.place) {
         return Some(Refusal::NotFound);
     }
-    if lacks_method(&request.place, request.availability) {
+    if lacks_method(&request.place, request.has_method) {
         return Some(Refusal::NotAllowed);
     }
     None
@@ -40,17 +39,10 @@ fn is_taken(api: Option<u8>) -> bool
     }
 }
 
-/// Whether what is asked isn't built: left out, or to come.
-fn is_not_built(place: &Place, availability: Availability) -> bool
-    ensures { result ≡ spec.is_not_built place.now availability }
+fn is_left_out(place: &Place) -> bool
+    ensures { result ≡ spec.is_left_out place.now }
 {
-    match place {
-        Place::Of { org: _, route: _ } | Place::Organisations => {
-            matches!(availability, Availability::Later)
-        }
-        Place::LeftOut => true,
-        Place::NoRoute | Place::NoMemory => false,
-    }
+    matches!(place, Place::LeftOut)
 }
 
 fn is_no_route(place: &Place) -> bool
@@ -60,13 +52,11 @@ fn is_no_route(place: &Place) -> bool
 }
 
 /// Whether the table has the path, and not the method.
-fn lacks_method(place: &Place, availability: Availability) -> bool
-    ensures { result ≡ spec.lacks_method place.now availability }
+fn lacks_method(place: &Place, has_method: bool) -> bool
+    ensures { result ≡ spec.lacks_method place.now has_method }
 {
     match place {
-        Place::Of { org: _, route: _ } | Place::Organisations => {
-            matches!(availability, Availability::Lacking)
-        }
+        Place::Of { org: _, route: _ } | Place::Organisations => !has_method,
         Place::LeftOut | Place::NoRoute | Place::NoMemory => false,
     }
 }

@@ -16,6 +16,7 @@ use object_routes::{DataBags, Organisations, PlainObjects};
 use org_core::{
     Body, Context, Lent, OrganisationRoute, Prepared, Refusal, Request, Route, Stop, document_in,
 };
+use policy_routes::Policies;
 use search_routes::Searches;
 use std::alloc::Global;
 use std::sync::ledger::Ledger;
@@ -77,7 +78,9 @@ fn at_route<F: Finder, L: Ledger>(
         Route::Search(route) => {
             answered_by(alloc, &Searches, context, lent, route, request, steps)
         }
-        Route::Policies(_) => Err(Stop::Refused(Refusal::NotImplemented)),
+        Route::Policies(route) => {
+            answered_by(alloc, &Policies, context, lent, route, request, steps)
+        }
     }
 }
 

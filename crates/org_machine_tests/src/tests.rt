@@ -14,7 +14,7 @@ use org_core::{
     Reply, Request, Route,
 };
 use org_machine::{is_listing, listing, prepare, serve, serve_outside, settle};
-use route_table::{Availability, Verb};
+use route_table::Verb;
 use sandboxes::Files;
 use std::alloc::Global;
 use std::hash::RandomState;
@@ -61,7 +61,7 @@ fn request(alloc: Global, verb: Verb, place: Place, body: &str) -> Result<Reques
         api: Some(0),
         verb,
         place,
-        availability: Availability::Built,
+        has_method: true,
         asked: Parameters::new(alloc),
         body,
         close: false,

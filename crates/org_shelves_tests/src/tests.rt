@@ -7,7 +7,7 @@ use org_shelves::{
     Assignments, OrgShelves, Revision, ShelfMove, is_named, make_on_shelves, named_files_stay,
     sound_moves_keep,
 };
-use policy_locks::read_lock;
+use policy_locks::{Lock, read_lock};
 use sandboxes::{Checksum, Files, Hashed, Sums, read_checksum};
 use std::alloc::Global;
 use std::fmt::Write;
@@ -67,8 +67,8 @@ fn one_version() -> Result<Version, Fail> {
 }
 
 fn sandbox(alloc: Global, files: &mut Files, org: &Text, sum: Checksum) -> Result<Checksum, Fail> {
-    let sums = Sums::of(vec![in alloc; sum]?);
     files.reserve(alloc, org, 1)?;
+    let sums = Sums::of(vec![in alloc; sum]?);
     Ok(files.begin(org, sums).ok().ok_or("a sandbox")?)
 }
 
@@ -92,19 +92,29 @@ fn commit(alloc: Global, files: &mut Files, org: &Text, id: &Checksum) -> Option
     }
 }
 
+/// The one file.
+fn add_file(alloc: Global, files: &mut Files, org: &Text, sum: Checksum) -> Result<(), Fail> {
+    let id = sandbox(alloc, files, org, sum)?;
+    upload(alloc, files, org, sum)?;
+    Ok(commit(alloc, files, org, &id).ok_or("a commit")?)
+}
+
 /// The one file, committed.
 fn committed(alloc: Global, org: &Text, sum: Checksum) -> Result<Files, Fail> {
     let mut files = Files::none(alloc);
-    let id = sandbox(alloc, &mut files, org, sum)?;
-    upload(alloc, &mut files, org, sum)?;
-    commit(alloc, &mut files, org, &id).ok_or("a commit")?;
+    add_file(alloc, &mut files, org, sum)?;
     Ok(files)
+}
+
+fn checksum(alloc: Global) -> Result<Checksum, Fail> {
+    let text = text(alloc, SUM)?;
+    Ok(read_checksum(&text).ok_or("a checksum")?)
 }
 
 /// Empty shelves, and the one file, committed.
 fn begin(alloc: Global) -> Result<Kept, Fail> {
+    let sum = checksum(alloc)?;
     let org = text(alloc, "acme")?;
-    let sum = read_checksum(&text(alloc, SUM)?).ok_or("a checksum")?;
     let files = committed(alloc, &org, sum)?;
     Ok(Kept {
         shelves: OrgShelves::none(alloc),
@@ -114,102 +124,144 @@ fn begin(alloc: Global) -> Result<Kept, Fail> {
     })
 }
 
+fn edition_in(alloc: Global, body: &Tree) -> Result<Edition, Fail> {
+    let version = one_version()?;
+    let name = name(alloc, "web")?;
+    let read = Edition::read(alloc, body, &name, &version);
+    Ok(read.ok().ok_or("an edition")?)
+}
+
 fn edition(alloc: Global) -> Result<Edition, Fail> {
     let body = tree(alloc, VERSION)?;
-    let read = Edition::read(alloc, &body, &name(alloc, "web")?, &one_version()?);
-    Ok(read.ok().ok_or("an edition")?)
+    edition_in(alloc, &body)
+}
+
+fn artifact_in(alloc: Global, body: &Tree) -> Result<Edition, Fail> {
+    let name = name(alloc, "web")?;
+    let id = text(alloc, ID)?;
+    let read = Edition::read_artifact(alloc, body, &name, &id);
+    Ok(read.ok().ok_or("an artifact")?)
 }
 
 fn artifact(alloc: Global) -> Result<Edition, Fail> {
     let body = tree(alloc, ARTIFACT)?;
-    let read = Edition::read_artifact(alloc, &body, &name(alloc, "web")?, &text(alloc, ID)?);
-    Ok(read.ok().ok_or("an artifact")?)
+    artifact_in(alloc, &body)
+}
+
+fn lock(alloc: Global) -> Result<Lock, Fail> {
+    let body = tree(alloc, LOCK)?;
+    Ok(read_lock(alloc, &body).ok().ok_or("a lock")?)
 }
 
 fn revision(alloc: Global) -> Result<Revision, Fail> {
-    let lock = read_lock(alloc, &tree(alloc, LOCK)?).ok().ok_or("a lock")?;
-    Ok(Revision::of(lock).copy(alloc)?)
+    let revision = Revision::of(lock(alloc)?);
+    Ok(revision.copy(alloc)?)
+}
+
+fn assigned(
+    alloc: Global,
+    before: &Assignments,
+    policy: &str,
+    revision: &str,
+) -> Result<Assignments, NoMemory> {
+    let policy = text(alloc, policy)?;
+    let revision = text(alloc, revision)?;
+    before.with(alloc, &policy, &revision)
+}
+
+fn other_assigned(alloc: Global) -> Result<Assignments, NoMemory> {
+    let none = Assignments::none(alloc);
+    assigned(alloc, &none, "other", "2")
+}
+
+fn both_assigned(alloc: Global) -> Result<Assignments, NoMemory> {
+    let other = other_assigned(alloc)?;
+    assigned(alloc, &other, "base", "1")
 }
 
 /// That `base` is assigned at its revision, and `other`, which was, isn't.
-fn assignments(alloc: Global) -> Result<Assignments, Fail> {
+fn assignments(alloc: Global) -> Result<Assignments, NoMemory> {
     let other = text(alloc, "other")?;
-    let made = Assignments::none(alloc)
-        .with(alloc, &other, &text(alloc, "2")?)?
-        .with(alloc, &text(alloc, "base")?, &text(alloc, "1")?)?;
-    Ok(made.without(alloc, &other)?)
+    let both = both_assigned(alloc)?;
+    both.without(alloc, &other)
 }
 
-fn make(kept: &mut Kept, one: ShelfMove) -> Result<(), NoMemory> {
+fn put_version(alloc: Global) -> Result<ShelfMove, Fail> {
+    let version = one_version()?;
+    let name = text(alloc, "web")?;
+    Ok(ShelfMove::PutVersion(name, version, edition(alloc)?))
+}
+
+fn take_version(alloc: Global) -> Result<ShelfMove, Fail> {
+    let version = one_version()?;
+    Ok(ShelfMove::TakeVersion(text(alloc, "web")?, version))
+}
+
+fn put_artifact(alloc: Global) -> Result<ShelfMove, Fail> {
+    let name = text(alloc, "web")?;
+    let id = text(alloc, ID)?;
+    Ok(ShelfMove::PutArtifact(name, id, artifact(alloc)?))
+}
+
+fn take_artifact(alloc: Global) -> Result<ShelfMove, Fail> {
+    let name = text(alloc, "web")?;
+    Ok(ShelfMove::TakeArtifact(name, text(alloc, ID)?))
+}
+
+fn put_revision(alloc: Global) -> Result<ShelfMove, Fail> {
+    let policy = text(alloc, "base")?;
+    let id = text(alloc, "1")?;
+    Ok(ShelfMove::PutRevision(policy, id, revision(alloc)?))
+}
+
+fn take_policy(alloc: Global) -> Result<ShelfMove, Fail> {
+    Ok(ShelfMove::TakePolicy(text(alloc, "base")?))
+}
+
+fn put_group(alloc: Global, name: &str) -> Result<ShelfMove, Fail> {
+    let name = text(alloc, name)?;
+    Ok(ShelfMove::PutGroup(name, assignments(alloc)?))
+}
+
+fn take_group(alloc: Global, name: &str) -> Result<ShelfMove, Fail> {
+    Ok(ShelfMove::TakeGroup(text(alloc, name)?))
+}
+
+/// The move that a line names. A move of its own in each function: what a function holds costs a proof at each `?`.
+fn move_of(alloc: Global, line: &str) -> Result<ShelfMove, Fail> {
+    match line {
+        "put version" => put_version(alloc),
+        "take version" => take_version(alloc),
+        "put artifact" => put_artifact(alloc),
+        "take artifact" => take_artifact(alloc),
+        "put revision" => put_revision(alloc),
+        "take policy" => take_policy(alloc),
+        "put group prod" => put_group(alloc, "prod"),
+        "put group dev" => put_group(alloc, "dev"),
+        "take group dev" => take_group(alloc, "dev"),
+        _ => Err(Fail::from("a move")),
+    }
+}
+
+/// Makes the move that a line names.
+fn make(alloc: Global, kept: &mut Kept, line: &str) -> Result<(), Fail> {
     kept.shelves.reserve(1)?;
+    let one = move_of(alloc, line)?;
     make_on_shelves(&mut kept.shelves, &mut kept.files, &kept.org, one);
     Ok(())
 }
 
-fn put_version(alloc: Global, kept: &mut Kept) -> Result<(), Fail> {
-    let one = ShelfMove::PutVersion(text(alloc, "web")?, one_version()?, edition(alloc)?);
-    Ok(make(kept, one)?)
-}
-
-fn take_version(alloc: Global, kept: &mut Kept) -> Result<(), Fail> {
-    let one = ShelfMove::TakeVersion(text(alloc, "web")?, one_version()?);
-    Ok(make(kept, one)?)
-}
-
-fn put_artifact(alloc: Global, kept: &mut Kept) -> Result<(), Fail> {
-    let one = ShelfMove::PutArtifact(text(alloc, "web")?, text(alloc, ID)?, artifact(alloc)?);
-    Ok(make(kept, one)?)
-}
-
-fn take_artifact(alloc: Global, kept: &mut Kept) -> Result<(), Fail> {
-    let one = ShelfMove::TakeArtifact(text(alloc, "web")?, text(alloc, ID)?);
-    Ok(make(kept, one)?)
-}
-
-fn put_revision(alloc: Global, kept: &mut Kept) -> Result<(), Fail> {
-    let one = ShelfMove::PutRevision(text(alloc, "base")?, text(alloc, "1")?, revision(alloc)?);
-    Ok(make(kept, one)?)
-}
-
-fn take_policy(alloc: Global, kept: &mut Kept) -> Result<(), Fail> {
-    let one = ShelfMove::TakePolicy(text(alloc, "base")?);
-    Ok(make(kept, one)?)
-}
-
-fn put_group(alloc: Global, kept: &mut Kept, name: &str) -> Result<(), Fail> {
-    let one = ShelfMove::PutGroup(text(alloc, name)?, assignments(alloc)?);
-    Ok(make(kept, one)?)
-}
-
-fn take_group(alloc: Global, kept: &mut Kept, name: &str) -> Result<(), Fail> {
-    let one = ShelfMove::TakeGroup(text(alloc, name)?);
-    Ok(make(kept, one)?)
-}
-
-/// Makes the move that a line names, where it names one. A move of its own in each function: what a function holds costs a
-/// proof at each `?`.
-fn make_move(alloc: Global, kept: &mut Kept, line: &str) -> Result<(), Fail> {
-    match line {
-        "put version" => put_version(alloc, kept),
-        "take version" => take_version(alloc, kept),
-        "put artifact" => put_artifact(alloc, kept),
-        "take artifact" => take_artifact(alloc, kept),
-        "put revision" => put_revision(alloc, kept),
-        "take policy" => take_policy(alloc, kept),
-        "put group prod" => put_group(alloc, kept, "prod"),
-        "put group dev" => put_group(alloc, kept, "dev"),
-        "take group dev" => take_group(alloc, kept, "dev"),
-        _ => Ok(()),
-    }
-}
-
-fn tell_manifests(told: &mut String, shelves: &OrgShelves) -> Result<(), Fail> {
+fn tell_versions(told: &mut String, shelves: &OrgShelves) -> Result<(), Fail> {
     told.push_str("cookbooks")?;
     for (name, shelf) in shelves.cookbooks().shelves() {
         for (version, _) in shelf.entries() {
             write!(told, " {name}-{version}")?;
         }
     }
+    Ok(())
+}
+
+fn tell_artifacts(told: &mut String, shelves: &OrgShelves) -> Result<(), Fail> {
     told.push_str("; artifacts")?;
     for (name, shelf) in shelves.artifacts().shelves() {
         for (id, _) in shelf.entries() {
@@ -226,6 +278,10 @@ fn tell_policies(told: &mut String, shelves: &OrgShelves) -> Result<(), Fail> {
             write!(told, " {name}/{revision}")?;
         }
     }
+    Ok(())
+}
+
+fn tell_groups(told: &mut String, shelves: &OrgShelves) -> Result<(), Fail> {
     told.push_str("; groups")?;
     for (name, assignments) in shelves.groups().entries() {
         write!(told, " {name}")?;
@@ -236,10 +292,16 @@ fn tell_policies(told: &mut String, shelves: &OrgShelves) -> Result<(), Fail> {
     Ok(())
 }
 
+fn tell_shelves(told: &mut String, shelves: &OrgShelves) -> Result<(), Fail> {
+    tell_versions(told, shelves)?;
+    tell_artifacts(told, shelves)?;
+    tell_policies(told, shelves)?;
+    tell_groups(told, shelves)
+}
+
 /// What is on the shelves, and of the file.
 fn tell(told: &mut String, kept: &Kept) -> Result<(), Fail> {
-    tell_manifests(told, &kept.shelves)?;
-    tell_policies(told, &kept.shelves)?;
+    tell_shelves(told, &kept.shelves)?;
     let named = match is_named(&kept.shelves, &kept.sum) {
         true => "named",
         false => "not named",
@@ -248,58 +310,42 @@ fn tell(told: &mut String, kept: &Kept) -> Result<(), Fail> {
         Some(_) => "there",
         None => "gone",
     };
-    write!(told, "; {named}, {there}\n")?;
-    Ok(())
+    Ok(write!(told, "; {named}, {there}\n")?)
 }
 
 /// Makes the move that a line names, where it names one, and tells what is kept then.
 fn live(told: &mut String, kept: &mut Kept, alloc: Global, word: &str) -> Result<(), Fail> {
-    make_move(alloc, kept, word)?;
+    if word != "nothing" {
+        make(alloc, kept, word)?;
+    }
     write!(told, "{word} => ")?;
     tell(told, kept)
 }
 
-#[test]
-fn a_file_goes_with_the_last_manifest_and_a_policy_with_its_assignments(
-    rt: HostRuntime,
-) -> Result<(), Fail> {
-    sound_moves_keep();
-    named_files_stay();
-    let mut kept = begin(rt.alloc())?;
-    let mut told = String::new(rt.alloc());
+fn tell_life(told: &mut String, kept: &mut Kept, alloc: Global) -> Result<(), Fail> {
     for line in LIFE.lines() {
         let (word, _) = line.split_once(" => ").unwrap_or((line, ""));
-        live(&mut told, &mut kept, rt.alloc(), word)?;
+        live(told, kept, alloc, word)?;
     }
-    assert_eq!(rt; told.as_str(), LIFE);
     Ok(())
 }
 
-/// The shelves with one of each.
-fn stocked(alloc: Global) -> Result<Kept, Fail> {
-    let mut kept = begin(alloc)?;
-    for word in [
-        "put version",
-        "put artifact",
-        "put revision",
-        "put group prod",
-    ] {
-        make_move(alloc, &mut kept, word)?;
-    }
-    Ok(kept)
+/// One of each on the shelves.
+fn stock(alloc: Global, kept: &mut Kept) -> Result<(), Fail> {
+    make(alloc, kept, "put version")?;
+    make(alloc, kept, "put artifact")?;
+    make(alloc, kept, "put revision")?;
+    make(alloc, kept, "put group prod")
 }
 
-#[test]
-fn a_copy_is_equal(rt: HostRuntime) -> Result<(), Fail> {
-    let kept = stocked(rt.alloc())?;
-    let copy = kept.shelves.copy(rt.alloc())?;
-    let mut told = String::new(rt.alloc());
-    tell_manifests(&mut told, &copy)?;
-    tell_policies(&mut told, &copy)?;
-    let due =
-        "cookbooks web-1.0.0; artifacts web/0123456789abcdef0123456789abcdef01234567; policies base/1; groups prod base=1";
-    assert_eq!(rt; told.as_str(), due);
-    Ok(())
+fn tell_copy(told: &mut String, shelves: &OrgShelves, alloc: Global) -> Result<(), Fail> {
+    let copy = shelves.copy(alloc)?;
+    tell_shelves(told, &copy)
+}
+
+fn tell_stocked_copy(told: &mut String, kept: &mut Kept, alloc: Global) -> Result<(), Fail> {
+    stock(alloc, kept)?;
+    tell_copy(told, &kept.shelves, alloc)
 }
 
 /// The revision of a policy that a group assigns, where its lock is there.
@@ -319,13 +365,59 @@ fn tell_assigned(
     Ok(())
 }
 
+fn tell_stocked_group(told: &mut String, kept: &mut Kept, alloc: Global) -> Result<(), Fail> {
+    stock(alloc, kept)?;
+    let group = text(alloc, "prod")?;
+    let policy = text(alloc, "base")?;
+    tell_assigned(told, &kept.shelves, &group, &policy)
+}
+
+/// What is told of an organisation.
+#[derive(Clone, Copy)]
+enum Telling {
+    Life,
+    StockedCopy,
+    StockedGroup,
+}
+
+fn told_of(alloc: Global, kept: &mut Kept, telling: Telling) -> Result<String, Fail> {
+    let mut told = String::new(alloc);
+    match telling {
+        Telling::Life => tell_life(&mut told, kept, alloc)?,
+        Telling::StockedCopy => tell_stocked_copy(&mut told, kept, alloc)?,
+        Telling::StockedGroup => tell_stocked_group(&mut told, kept, alloc)?,
+    }
+    Ok(told)
+}
+
+fn told(alloc: Global, telling: Telling) -> Result<String, Fail> {
+    let mut kept = begin(alloc)?;
+    told_of(alloc, &mut kept, telling)
+}
+
+#[test]
+fn a_file_goes_with_the_last_manifest_and_a_policy_with_its_assignments(
+    rt: HostRuntime,
+) -> Result<(), Fail> {
+    sound_moves_keep();
+    named_files_stay();
+    let told = told(rt.alloc(), Telling::Life)?;
+    assert_eq!(rt; told.as_str(), LIFE);
+    Ok(())
+}
+
+#[test]
+fn a_copy_is_equal(rt: HostRuntime) -> Result<(), Fail> {
+    let told = told(rt.alloc(), Telling::StockedCopy)?;
+    let due =
+        "cookbooks web-1.0.0; artifacts web/0123456789abcdef0123456789abcdef01234567; policies base/1; groups prod base=1";
+    assert_eq!(rt; told.as_str(), due);
+    Ok(())
+}
+
 #[test]
 fn what_a_group_assigns_is_found(rt: HostRuntime) -> Result<(), Fail> {
-    let kept = stocked(rt.alloc())?;
-    let mut told = String::new(rt.alloc());
-    let group = text(rt.alloc(), "prod")?;
-    let policy = text(rt.alloc(), "base")?;
-    tell_assigned(&mut told, &kept.shelves, &group, &policy)?;
+    let told = told(rt.alloc(), Telling::StockedGroup)?;
     assert_eq!(rt; told.as_str(), "1");
     Ok(())
 }

@@ -4,6 +4,7 @@
 mod depends;
 mod digests;
 mod fault;
+mod fill;
 mod identifiers;
 mod laws;
 mod lock;

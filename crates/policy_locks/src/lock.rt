@@ -1,6 +1,9 @@
 //! Locks, and what they hold.
+ghost use Rattle.std.specs.Prelude.{◌≡◌};
+
 use doc_tree::{Fields, Listed, Name, Text, Tree};
 use run_list::Items;
+use std::alloc::Global;
 use version_rules::Version;
 
 /// A run list under a name.
@@ -39,4 +42,24 @@ pub struct Lock {
     pub override_attributes: Fields,
     pub solution_dependencies: Fields,
     pub whole: Tree,
+}
+
+impl Lock {
+    /// A lock of these names, whose other fields are empty. It takes no memory.
+    pub(crate) fn empty(alloc: Global, revision_id: Name, name: Name) -> Lock
+        ensures revision { result.revision_id ≡ revision_id }
+        ensures name { result.name ≡ name }
+    {
+        Lock {
+            revision_id,
+            name,
+            run_list: Items::new(alloc),
+            named_run_lists: NamedRunLists::new(alloc),
+            cookbook_locks: CookbookLocks::new(alloc),
+            default_attributes: Fields::new(alloc),
+            override_attributes: Fields::new(alloc),
+            solution_dependencies: Fields::new(alloc),
+            whole: Tree::Null,
+        }
+    }
 }

@@ -1,13 +1,17 @@
 //! Reading a lock from a body.
-ghost use Rattle.std.specs.Prelude.{IfOk, None, Some, [], codes, option_copied};
+ghost use Rattle.std.specs.Prelude.{IfOk, None, Ok, Some, [], codes, option_copied};
 ghost use Rattle.doc_tree.specs.Doc.{pairs_of};
 ghost use Rattle.doc_tree.specs.Tree.{doc_of};
+ghost use Rattle.doc_tree.specs.declared.tree.Tree.TheVariants as tree;
+ghost use Rattle.cookbook_meta.specs.Faults.{then_do};
 ghost use Rattle.policy_locks.specs.Outcomes.{Gives};
 ghost use Rattle.policy_locks.specs.Parts as parts;
 ghost use Rattle.policy_locks.specs.Reading as spec;
+ghost use Rattle.policy_locks.specs.Stored as stored;
 ghost use Rattle.policy_locks.specs.declared.parts.Allowed.TheVariants as allowed;
 
 use crate::fault::{LockFault, bad_field, in_field};
+use crate::fill::fill;
 use crate::lock::{CookbookLocks, Lock, NamedRunLists};
 use crate::parts::{Allowed, cookbook_locks, fields_of, items_read, name_of, named_run_lists};
 use crate::stored::whole_of;
@@ -57,32 +61,36 @@ fn lock_in(alloc: Global, policy: Option<&Name>, body: &Fields) -> Result<Lock, 
 {
     let revision_id = name_at(alloc, "revision_id", body)?;
     let name = policy_name_at(alloc, policy, body)?;
-    let run_list = run_list_at(alloc, Allowed::Items, body)?;
-    let named_run_lists = lists_at(alloc, Allowed::Items, body)?;
-    let cookbook_locks = locks_at(alloc, body)?;
-    let default_attributes = dict_at(alloc, "default_attributes", body)?;
-    let override_attributes = dict_at(alloc, "override_attributes", body)?;
-    let solution_dependencies = dict_at(alloc, "solution_dependencies", body)?;
-    let whole = whole_of(
-        alloc,
-        &run_list,
-        &named_run_lists,
-        &default_attributes,
-        &override_attributes,
-        &solution_dependencies,
-        body,
+    let mut lock = Lock::empty(alloc, revision_id, name);
+    fill_lock(alloc, body, &mut lock)?;
+    Ok(lock)
+}
+
+/// Fills the fields of a lock that stand behind its names.
+fn fill_lock(alloc: Global, body: &Fields, lock: &mut Lock) -> Result<(), LockFault>
+    ensures { Gives (then_do result (λ done. Ok lock.new)) (then_do (parts.must parts.run_list_of (codes "run_list") (pairs_of body.now)) (λ run_list. then_do (parts.may [] (parts.named_run_lists allowed.Items) (codes "named_run_lists") (pairs_of body.now)) (λ lists. then_do (parts.must parts.cookbook_locks (codes "cookbook_locks") (pairs_of body.now)) (λ cookbooks. then_do (parts.may [] parts.dict_of (codes "default_attributes") (pairs_of body.now)) (λ default. then_do (parts.may [] parts.dict_of (codes "override_attributes") (pairs_of body.now)) (λ override. then_do (parts.may [] parts.dict_of (codes "solution_dependencies") (pairs_of body.now)) (λ solution. Ok (record { revision_id = lock.old.revision_id; name = lock.old.name; run_list = run_list; named_run_lists = lists; cookbook_locks = cookbooks; default_attributes = default; override_attributes = override; solution_dependencies = solution; whole = tree.Dict (stored.whole_of run_list lists default override solution (pairs_of body.now)) })))))))) }
+{
+    fill(&mut lock.run_list, run_list_at(alloc, Allowed::Items, body))?;
+    fill(
+        &mut lock.named_run_lists,
+        lists_at(alloc, Allowed::Items, body),
     )?;
-    Ok(Lock {
-        revision_id,
-        name,
-        run_list,
-        named_run_lists,
-        cookbook_locks,
-        default_attributes,
-        override_attributes,
-        solution_dependencies,
-        whole: Tree::Dict(whole),
-    })
+    fill(&mut lock.cookbook_locks, locks_at(alloc, body))?;
+    fill(
+        &mut lock.default_attributes,
+        dict_at(alloc, "default_attributes", body),
+    )?;
+    fill(
+        &mut lock.override_attributes,
+        dict_at(alloc, "override_attributes", body),
+    )?;
+    fill(
+        &mut lock.solution_dependencies,
+        dict_at(alloc, "solution_dependencies", body),
+    )?;
+    let whole = whole_of(alloc, lock, body);
+    fill(&mut lock.whole, whole)?;
+    Ok(())
 }
 
 /// The Name at a key that must be there.

@@ -1,13 +1,16 @@
 //! What a lock is made of.
-ghost use Rattle.std.specs.Prelude.{[], IfOk};
+ghost use Rattle.std.specs.Prelude.{[], IfOk, Ok};
 ghost use Rattle.doc_tree.specs.Doc.{pairs_of};
 ghost use Rattle.doc_tree.specs.Tree.{doc_of};
+ghost use Rattle.cookbook_meta.specs.Faults.{then_do};
 ghost use Rattle.policy_locks.specs.Outcomes.{Gives};
 ghost use Rattle.policy_locks.specs.Parts as parts;
 ghost use Rattle.policy_locks.specs.Sources as spec;
+ghost use Rattle.policy_locks.specs.declared.parts.Allowed.TheVariants as allowed;
 ghost use Rattle.std.specs.Prelude.{codes};
 
 use crate::fault::{LockFault, bad_field, in_field};
+use crate::fill::fill;
 use crate::lock::{NamedRunList, NamedRunLists};
 use crate::parts::{Allowed, needs_of};
 use crate::reading::{dict_at, lists_at, name_at, run_list_at};
@@ -46,6 +49,22 @@ impl PolicySource {
             override_attributes: self.override_attributes.copy(alloc)?,
         })
     }
+
+    /// A source of this name, whose other fields are empty. It takes no memory.
+    fn empty(alloc: Global, name: Name) -> PolicySource
+        ensures { result.name ≡ name }
+    {
+        PolicySource {
+            name,
+            run_list: Items::new(alloc),
+            named_run_lists: NamedRunLists::new(alloc),
+            cookbooks: EnvRules {
+                rules: Needs::new(alloc),
+            },
+            default_attributes: Fields::new(alloc),
+            override_attributes: Fields::new(alloc),
+        }
+    }
 }
 
 ghost use Rattle.std.specs.Prelude.{◌≡◌};
@@ -65,12 +84,18 @@ fn copy_lists(alloc: Global, lists: &NamedRunLists) -> Result<NamedRunLists, NoM
 {
     let mut copies = NamedRunLists::new(alloc);
     for named in lists.as_slice() {
-        copies.push(NamedRunList {
-            name: named.name.copy(alloc)?,
-            run_list: copy_items(alloc, &named.run_list)?,
-        })?;
+        copies.push(copy_list(alloc, named)?)?;
     }
     Ok(copies)
+}
+
+fn copy_list(alloc: Global, named: &NamedRunList) -> Result<NamedRunList, NoMemory>
+    ensures { IfOk result (λ copy. copy ≡ named.now) }
+{
+    Ok(NamedRunList {
+        name: named.name.copy(alloc)?,
+        run_list: copy_items(alloc, &named.run_list)?,
+    })
 }
 
 /// The source of a lock that a body gives, looked at field by field: `name`, a Name; `run_list`, a list of items without
@@ -98,19 +123,33 @@ fn source_in(alloc: Global, body: &Fields) -> Result<PolicySource, LockFault>
     ensures { Gives result (spec.source_in (pairs_of body.now)) }
 {
     let name = name_at(alloc, "name", body)?;
-    let run_list = run_list_at(alloc, Allowed::Recipes, body)?;
-    let named_run_lists = lists_at(alloc, Allowed::Recipes, body)?;
-    let rules = rules_at(alloc, body)?;
-    let default_attributes = dict_at(alloc, "default_attributes", body)?;
-    let override_attributes = dict_at(alloc, "override_attributes", body)?;
-    Ok(PolicySource {
-        name,
-        run_list,
-        named_run_lists,
-        cookbooks: EnvRules { rules },
-        default_attributes,
-        override_attributes,
-    })
+    let mut source = PolicySource::empty(alloc, name);
+    fill_source(alloc, body, &mut source)?;
+    Ok(source)
+}
+
+/// Fills the fields of a source that stand behind its name.
+fn fill_source(alloc: Global, body: &Fields, source: &mut PolicySource) -> Result<(), LockFault>
+    ensures { Gives (then_do result (λ done. Ok source.new)) (then_do (parts.must parts.recipes_of (codes "run_list") (pairs_of body.now)) (λ run_list. then_do (parts.may [] (parts.named_run_lists allowed.Recipes) (codes "named_run_lists") (pairs_of body.now)) (λ lists. then_do (parts.may [] parts.needs_of (codes "cookbooks") (pairs_of body.now)) (λ cookbooks. then_do (parts.may [] parts.dict_of (codes "default_attributes") (pairs_of body.now)) (λ default. then_do (parts.may [] parts.dict_of (codes "override_attributes") (pairs_of body.now)) (λ override. Ok (record { name = source.old.name; run_list = run_list; named_run_lists = lists; cookbooks = record { rules = cookbooks }; default_attributes = default; override_attributes = override }))))))) }
+{
+    fill(
+        &mut source.run_list,
+        run_list_at(alloc, Allowed::Recipes, body),
+    )?;
+    fill(
+        &mut source.named_run_lists,
+        lists_at(alloc, Allowed::Recipes, body),
+    )?;
+    fill(&mut source.cookbooks.rules, rules_at(alloc, body))?;
+    fill(
+        &mut source.default_attributes,
+        dict_at(alloc, "default_attributes", body),
+    )?;
+    fill(
+        &mut source.override_attributes,
+        dict_at(alloc, "override_attributes", body),
+    )?;
+    Ok(())
 }
 
 fn rules_at(alloc: Global, body: &Fields) -> Result<Needs, LockFault>

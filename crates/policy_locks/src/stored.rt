@@ -1,13 +1,16 @@
 //! A lock as it is stored.
-ghost use Rattle.std.specs.Prelude.{◌≡◌, IfOk, OnOk, [], map};
+ghost use Rattle.std.specs.Prelude.{◌≡◌, ◌∷◌, ◌++◌, IfOk, OnOk, [], map};
+ghost use Rattle.std.specs.Map.{keys_of};
 ghost use Rattle.doc_tree.specs.Doc.{pairs_of};
-ghost use Rattle.doc_tree.specs.Tree.{doc_of};
+ghost use Rattle.doc_tree.specs.Tree.{doc_of, pair_of};
+ghost use Rattle.doc_tree.specs.Valid.{InOrder};
+ghost use Rattle.doc_tree.specs.declared.tree.Tree.TheVariants as tree;
 ghost use Rattle.cookbook_meta.specs.Stored as kept;
 ghost use Rattle.policy_locks.specs.Stored as spec;
 
-use crate::lock::{NamedRunList, NamedRunLists};
+use crate::lock::{Lock, NamedRunList, NamedRunLists};
 use crate::put::put_tree;
-use doc_tree::{Fields, NoMemory, Tree, Trees};
+use doc_tree::{Field, Fields, NoMemory, Tree, Trees};
 use run_list::Items;
 use std::alloc::Global;
 
@@ -21,21 +24,15 @@ static SETTLED: [&str; 5] = [
 ];
 
 /// The stored object of a lock whose body is this one.
-pub(crate) fn whole_of(
-    alloc: Global,
-    run_list: &Items,
-    lists: &NamedRunLists,
-    default: &Fields,
-    over: &Fields,
-    solution: &Fields,
-    body: &Fields,
-) -> Result<Fields, NoMemory>
-    ensures { IfOk result (λ made. made ≡ spec.whole_of run_list.now lists.now default.now over.now solution.now (pairs_of body.now)) }
+pub(crate) fn whole_of(alloc: Global, lock: &Lock, body: &Fields) -> Result<Tree, NoMemory>
+    ensures { IfOk result (λ whole. whole ≡ tree.Dict (spec.whole_of lock.now.run_list lock.now.named_run_lists lock.now.default_attributes lock.now.override_attributes lock.now.solution_dependencies (pairs_of body.now))) }
 {
     let mut made = beside(alloc, body)?;
-    put_run_lists(alloc, &mut made, run_list, lists)?;
-    put_dicts(alloc, &mut made, default, over, solution)?;
-    Ok(made)
+    put_run_lists(alloc, &mut made, &lock.run_list, &lock.named_run_lists)?;
+    let default = &lock.default_attributes;
+    let over = &lock.override_attributes;
+    put_dicts(alloc, &mut made, default, over, &lock.solution_dependencies)?;
+    Ok(Tree::Dict(made))
 }
 
 /// What a body has beside the fields that aren't stored as they were sent.
@@ -45,10 +42,19 @@ fn beside(alloc: Global, body: &Fields) -> Result<Fields, NoMemory>
     let mut made = Fields::new(alloc);
     for field in body.as_slice() {
         if !is_settled(field.key.as_str()) {
-            made.push(field.key.copy(alloc)?, field.tree.copy(alloc)?)?;
+            push_copy(alloc, &mut made, field)?;
         }
     }
     Ok(made)
+}
+
+/// Adds a copy of a field at the end, whose key is above those of the others.
+fn push_copy(alloc: Global, made: &mut Fields, field: &Field) -> Result<(), NoMemory>
+    requires { InOrder (keys_of made.old ++ field.now.key ∷ []) }
+    ensures { OnOk result (made.new ≡ made.old ++ pair_of field.now ∷ []) }
+{
+    let key = field.key.copy(alloc)?;
+    made.push(key, field.tree.copy(alloc)?)
 }
 
 fn is_settled(key: &str) -> bool

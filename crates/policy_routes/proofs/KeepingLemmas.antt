@@ -16,7 +16,7 @@ use Rattle.object_store.specs.Objects.{key, key_cmp}
 use Rattle.object_store.specs.declared.key.Key.{Key}
 use Rattle.policy_locks.specs.declared.lock.Lock.{Lock}
 use Rattle.shelves.proofs.ShelfLaws.{get-remove_other, get-remove_same, has_shelf-put_other, has_shelf-put_same, has_shelf-without_other, other_name, same_name, tied_name, value-has_shelf, value_at-put_same}
-use Rattle.shelves.specs.Shelves.{has_shelf, put, text_cmp, value_at, without}
+use Rattle.shelves.specs.Shelves.{has_shelf, put, text_cmp, value_at}
 use Rattle.org_core.proofs.ConditionsLemmas.{created_known}
 use Rattle.org_core.proofs.ListedLemmas.{NamesKnown}
 use Rattle.org_core.proofs.ShelfConditionsLemmas.{SameNames, SameOthers, first_shelved_keeps, last_shelved_keeps, others_from, shelve_keeps}

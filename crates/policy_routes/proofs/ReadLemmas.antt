@@ -1,5 +1,5 @@
 -- What is put was read under its own name.
-use Rattle.std.proofs.Common.{◌≡◌, ℕ, Bool, true, false, cond, ◌&&◌, List, Option, Some, None, option_and_then, ok_or, Result, Ok, Err, codes, refl, sym, ap, subst, ◌∙◌}
+use Rattle.std.proofs.Common.{◌≡◌, ℕ, Bool, true, false, cond, ◌&&◌, List, Some, Result, Ok, Err, refl, sym, ap, subst, ◌∙◌}
 use Rattle.std.proofs.lemmas.Bool.{and_parts}
 use Rattle.cookbook_editions.specs.Kept.{IsStoredArtifact, artifact_stored_from}
 use Rattle.cookbook_meta.proofs.ArtifactLemmas.{artifact_fits, artifacts_again}
@@ -9,7 +9,7 @@ use Rattle.cookbook_meta.specs.Parts.{is_identifier}
 use Rattle.cookbook_meta.specs.declared.fault.MetaFault.{MetaFault}
 use Rattle.cookbook_meta.specs.declared.manifests.Manifest.{Manifest}
 use Rattle.cookbook_routes.specs.Versions.{or_bad_manifest}
-use Rattle.doc_tree.specs.Doc.{Doc, null, boolean, whole, words, list, dict, Pairs}
+use Rattle.doc_tree.specs.Doc.{Doc, whole}
 use Rattle.doc_tree.specs.Name.{is_name}
 use Rattle.doc_tree.specs.Tree.{doc_of}
 use Rattle.policy_locks.proofs.LockLemmas.{revision_named}
@@ -23,7 +23,7 @@ use Rattle.org_core.specs.declared.refusals.Refusal.{Refusal}
 use Rattle.org_core.specs.declared.requests.Body.{Body}
 use Rattle.org_core.specs.declared.routes.PolicyRoute.{PolicyRoute}
 use Rattle.org_core.specs.declared.routes.PolicyRoute.TheVariants.{Artifacts, Artifact, Policies, Policy, Revisions, Revision, Groups, Group, Assignment}
-use Rattle.org_shelves.specs.Conditions.{IsArtifactOf, IsRevisionOf, IsStoredLock}
+use Rattle.org_shelves.specs.Conditions.{IsArtifactOf, IsRevisionOf}
 use Rattle.policy_routes.specs.Artifacts.{artifact_said, is_artifact_place}
 use Rattle.policy_routes.specs.Locks.{lock_said, or_bad_lock}
 use Rattle.policy_routes.specs.PolicyRules.{adding, assigning_read, only_get, policy_asked, putting_artifact}

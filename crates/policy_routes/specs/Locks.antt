@@ -1,5 +1,5 @@
 -- Locks in bodies, and what refuses them.
-use Rattle.std.specs.Prelude.{ℕ, Bool, not, List, [], Option, Some, None, is_some, option_map, Result, Ok, Err}
+use Rattle.std.specs.Prelude.{ℕ, Bool, not, List, Option, Some, is_some, option_map, Result, Ok, Err}
 use Rattle.std.specs.List.{find}
 use Rattle.doc_tree.specs.Doc.{Doc}
 use Rattle.policy_locks.specs.Reading.{lock_from}

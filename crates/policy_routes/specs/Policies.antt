@@ -1,5 +1,5 @@
 -- The routes of policies and their revisions.
-use Rattle.std.specs.Prelude.{ℕ, Bool, not, ◌&&◌, cond, List, [], ◌∷◌, ◌++◌, map, codes, Option, Some, None, is_some, unwrap_or}
+use Rattle.std.specs.Prelude.{ℕ, Bool, not, ◌&&◌, cond, List, [], ◌∷◌, ◌++◌, map, codes, Option, is_some, unwrap_or}
 use Rattle.std.specs.FinMap as finite
 use Rattle.access_lists.specs.declared.perm.Perm.TheVariants as permission
 use Rattle.access_lists.specs.declared.starting.Container.TheVariants as container

@@ -1,5 +1,5 @@
 -- The rules of artifacts, policies and policy groups.
-use Rattle.std.specs.Prelude.{ℕ, Bool, false, ◌&&◌, cond, List, [], ◌∷◌, codes, Option, Some, None, Result, Ok, Err}
+use Rattle.std.specs.Prelude.{ℕ, Bool, false, ◌&&◌, cond, List, [], ◌∷◌, codes, Option, None, Result, Ok, Err}
 use Rattle.access_lists.specs.declared.perm.Perm.TheVariants as permission
 use Rattle.doc_tree.specs.Doc.{Doc}
 use Rattle.doc_tree.specs.Name.{is_name}

@@ -1,6 +1,7 @@
 //! What was read of a term, and what one byte more makes of that.
 ghost use Rattle.query_text.specs.Grammar.{closing};
 ghost use Rattle.query_text.specs.Parts.{bound_end, bound_step, ended, high_end, high_more, low_end, low_more, part_step, plain_step, value_step, word_step};
+ghost use Rattle.query_text.specs.declared.parts.Bound.TheVariants as bounds;
 ghost use Rattle.query_text.specs.declared.parts.Part.TheVariants as variant;
 ghost use Rattle.std.specs.Prelude.{◌≡◌, ◌++◌, ◌∷◌, [], IfOk, MatchResult, Some, None, if◌then◌else◌};
 
@@ -93,17 +94,17 @@ fn bound_step(alloc: Global, here: Bound, byte: u8) -> Result<Option<Bound>, NoM
             }
         }
         Bound::Word(word) => plain_step(word, byte),
-        Bound::WordEscape(word) => Ok(Some(Bound::Word(with_byte(word, byte)?))),
+        Bound::WordEscape(word) => longer_word(word, byte),
         Bound::Quoted(bytes) => {
             if byte == b'"' {
                 Ok(Some(Bound::Whole(Some(Bytes::of(bytes.into_vec())))))
             } else if byte == b'\\' {
                 Ok(Some(Bound::QuotedEscape(bytes)))
             } else {
-                Ok(Some(Bound::Quoted(with_byte(bytes, byte)?)))
+                longer_quoted(bytes, byte)
             }
         }
-        Bound::QuotedEscape(bytes) => Ok(Some(Bound::Quoted(with_byte(bytes, byte)?))),
+        Bound::QuotedEscape(bytes) => longer_quoted(bytes, byte),
         Bound::Whole(_) => Ok(None),
     }
 }
@@ -114,10 +115,22 @@ fn plain_step(word: Listed<u8>, byte: u8) -> Result<Option<Bound>, NoMemory>
     if byte == b'\\' {
         Ok(Some(Bound::WordEscape(word)))
     } else if is_word_byte(byte) {
-        Ok(Some(Bound::Word(with_byte(word, byte)?)))
+        longer_word(word, byte)
     } else {
         Ok(None)
     }
+}
+
+fn longer_word(word: Listed<u8>, byte: u8) -> Result<Option<Bound>, NoMemory>
+    ensures { IfOk result (λ next. next ≡ bound_step (bounds.WordEscape word) byte) }
+{
+    Ok(Some(Bound::Word(with_byte(word, byte)?)))
+}
+
+fn longer_quoted(bytes: Listed<u8>, byte: u8) -> Result<Option<Bound>, NoMemory>
+    ensures { IfOk result (λ next. next ≡ bound_step (bounds.QuotedEscape bytes) byte) }
+{
+    Ok(Some(Bound::Quoted(with_byte(bytes, byte)?)))
 }
 
 /// The bound, where it may end here, or else what was given.
@@ -142,14 +155,12 @@ pub(crate) fn part_step(alloc: Global, here: Part, byte: u8) -> Result<Option<Pa
         Part::EveryColon => Ok((byte == b':').then_some(Part::EveryStar)),
         Part::EveryStar => Ok((byte == b'*').then_some(Part::Whole(Term::Every))),
         Part::Field(field) => field_step(field, byte),
-        Part::FieldEscape(field) => Ok(Some(Part::Field(with_byte(field, byte)?))),
+        Part::FieldEscape(field) => field_more(field, byte),
         Part::ValueDue(field) => value_step(alloc, field, byte),
         Part::Quoted(field, bytes) => quoted_step(field, bytes, byte),
-        Part::QuotedEscape(field, bytes) => Ok(Some(Part::Quoted(field, with_byte(bytes, byte)?))),
+        Part::QuotedEscape(field, bytes) => quoted_more(field, bytes, byte),
         Part::Word(field, signs) => word_step(field, signs, byte),
-        Part::WordEscape(field, signs) => {
-            Ok(Some(Part::Word(field, with_sign(signs, Sign::Byte(byte))?)))
-        }
+        Part::WordEscape(field, signs) => word_more(field, signs, Sign::Byte(byte)),
         Part::Low(field, with_ends, bound) => low_step(alloc, field, with_ends, bound, byte),
         Part::ToT(field, with_ends, low) => {
             Ok((byte == b'T').then_some(Part::ToO(field, with_ends, low)))
@@ -175,10 +186,16 @@ fn field_step(field: Listed<u8>, byte: u8) -> Result<Option<Part>, NoMemory>
     } else if byte == b'\\' {
         Ok(Some(Part::FieldEscape(field)))
     } else if is_field_byte(byte) {
-        Ok(Some(Part::Field(with_byte(field, byte)?)))
+        field_more(field, byte)
     } else {
         Ok(None)
     }
+}
+
+fn field_more(field: Listed<u8>, byte: u8) -> Result<Option<Part>, NoMemory>
+    ensures { IfOk result (λ next. next ≡ part_step (variant.FieldEscape field) byte) }
+{
+    Ok(Some(Part::Field(with_byte(field, byte)?)))
 }
 
 fn value_step(alloc: Global, field: Bytes, byte: u8) -> Result<Option<Part>, NoMemory>
@@ -204,8 +221,14 @@ fn quoted_step(field: Bytes, bytes: Listed<u8>, byte: u8) -> Result<Option<Part>
     } else if byte == b'\\' {
         Ok(Some(Part::QuotedEscape(field, bytes)))
     } else {
-        Ok(Some(Part::Quoted(field, with_byte(bytes, byte)?)))
+        quoted_more(field, bytes, byte)
     }
+}
+
+fn quoted_more(field: Bytes, bytes: Listed<u8>, byte: u8) -> Result<Option<Part>, NoMemory>
+    ensures { IfOk result (λ next. next ≡ part_step (variant.QuotedEscape field bytes) byte) }
+{
+    Ok(Some(Part::Quoted(field, with_byte(bytes, byte)?)))
 }
 
 fn word_step(field: Bytes, signs: Listed<Sign>, byte: u8) -> Result<Option<Part>, NoMemory>
@@ -214,14 +237,20 @@ fn word_step(field: Bytes, signs: Listed<Sign>, byte: u8) -> Result<Option<Part>
     if byte == b'\\' {
         Ok(Some(Part::WordEscape(field, signs)))
     } else if byte == b'*' {
-        Ok(Some(Part::Word(field, with_sign(signs, Sign::Any)?)))
+        word_more(field, signs, Sign::Any)
     } else if byte == b'?' {
-        Ok(Some(Part::Word(field, with_sign(signs, Sign::One)?)))
+        word_more(field, signs, Sign::One)
     } else if is_word_byte(byte) {
-        Ok(Some(Part::Word(field, with_sign(signs, Sign::Byte(byte))?)))
+        word_more(field, signs, Sign::Byte(byte))
     } else {
         Ok(None)
     }
+}
+
+fn word_more(field: Bytes, signs: Listed<Sign>, sign: Sign) -> Result<Option<Part>, NoMemory>
+    ensures { IfOk result (λ next. next ≡ Some (variant.Word field (signs ++ sign ∷ []))) }
+{
+    Ok(Some(Part::Word(field, with_sign(signs, sign)?)))
 }
 
 fn low_step(

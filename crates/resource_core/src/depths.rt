@@ -75,7 +75,18 @@ fn numbered(alloc: Global, nexts: &[Places]) -> Result<Vec<usize>, NoMemory>
     let mut left = lengths_of(alloc, nexts)?;
     let mut ends = ends_of(alloc, &left)?;
     let mut numbers = vec![in alloc; 0usize; nexts.len()]?;
-    for number in 0..nexts.len() {
+    number_each(&befores, &mut left, &mut ends, &mut numbers)?;
+    Ok(numbers)
+}
+
+/// Numbers the ends, one by one, and what becomes an end by that.
+fn number_each(
+    befores: &[Vec<usize>],
+    left: &mut Vec<usize>,
+    ends: &mut Vec<usize>,
+    numbers: &mut [usize],
+) -> Result<(), NoMemory> {
+    for number in 0..numbers.len() {
         let Some(place) = ends.pop() else {
             break;
         };
@@ -83,20 +94,25 @@ fn numbered(alloc: Global, nexts: &[Places]) -> Result<Vec<usize>, NoMemory>
             numbers[place] = number;
         }
         if let Some(befores) = befores.get(place) {
-            take_from(befores, &mut left, &mut ends)?;
+            take_from(befores, left, ends)?;
         }
     }
-    Ok(numbers)
+    Ok(())
 }
 
 /// The places that lead to each.
 fn befores_of(alloc: Global, nexts: &[Places]) -> Result<Vec<Vec<usize>>, NoMemory> {
-    let mut befores = Vec::with_capacity(alloc, nexts.len())?;
-    for _ in nexts {
-        befores.push(Vec::new(alloc))?;
-    }
+    let mut befores = no_befores(alloc, nexts.len())?;
     for (place, nexts) in nexts.iter().enumerate() {
         add_before(place, nexts.as_slice(), &mut befores)?;
+    }
+    Ok(befores)
+}
+
+fn no_befores(alloc: Global, count: usize) -> Result<Vec<Vec<usize>>, NoMemory> {
+    let mut befores = Vec::with_capacity(alloc, count)?;
+    for _ in 0..count {
+        befores.push(Vec::new(alloc))?;
     }
     Ok(befores)
 }

@@ -219,16 +219,55 @@ pub(crate) fn stated_resource(
 ) -> Result<Resource, NoMemory>
     ensures { IfOk result (λ made. path ≡ spec.path_of merged.now.document kind (pairs_of fields.now) → made ≡ spec.resource merged.now.document kind actions (pairs_of fields.now)) }
 {
+    let words = words_in(alloc, fields, merged)?;
+    let lists = lists_in(alloc, fields)?;
     Ok(Resource {
         kind,
-        name: name_at(alloc, fields, merged)?,
+        name: words.name,
         path,
         actions,
-        content: words_at(alloc, fields, "content", merged)?,
+        content: words.content,
         mode: mode_at(fields, "mode"),
-        to: words_at(alloc, fields, "to", merged)?,
+        to: words.to,
         force_unlink: truth_at(fields, "force_unlink"),
         recursive: truth_at(fields, "recursive"),
+        notifies: lists.notifies,
+        subscribes: lists.subscribes,
+    })
+}
+
+/// The texts of a resource but its path.
+#[derive(Drop)]
+struct Words {
+    name: Text,
+    content: Option<Text>,
+    to: Option<Text>,
+}
+
+fn words_in(alloc: Global, fields: &Fields, merged: &Merged) -> Result<Words, NoMemory>
+    ensures name { IfOk result (λ words. words.name ≡ spec.name_at merged.now.document (pairs_of fields.now)) }
+    ensures content { IfOk result (λ words. words.content ≡ spec.words_at merged.now.document (codes "content") (pairs_of fields.now)) }
+    ensures to { IfOk result (λ words. words.to ≡ spec.words_at merged.now.document (codes "to") (pairs_of fields.now)) }
+{
+    Ok(Words {
+        name: name_at(alloc, fields, merged)?,
+        content: words_at(alloc, fields, "content", merged)?,
+        to: words_at(alloc, fields, "to", merged)?,
+    })
+}
+
+/// What a resource notifies and what it subscribes to.
+#[derive(Drop)]
+struct EntryLists {
+    notifies: Entries,
+    subscribes: Entries,
+}
+
+fn lists_in(alloc: Global, fields: &Fields) -> Result<EntryLists, NoMemory>
+    ensures notifies { IfOk result (λ lists. lists.notifies ≡ spec.entries_at (codes "notifies") (pairs_of fields.now)) }
+    ensures subscribes { IfOk result (λ lists. lists.subscribes ≡ spec.entries_at (codes "subscribes") (pairs_of fields.now)) }
+{
+    Ok(EntryLists {
         notifies: entries_at(alloc, fields, "notifies")?,
         subscribes: entries_at(alloc, fields, "subscribes")?,
     })

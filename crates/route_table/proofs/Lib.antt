@@ -2,5 +2,5 @@ pub mod SeekLemmas
 pub mod OrderLemmas
 pub mod Utf8Lemmas
 pub mod PathLemmas
-pub mod AvailabilityLemmas
+pub mod MethodLemmas
 pub mod LeftOutLemmas

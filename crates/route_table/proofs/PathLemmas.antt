@@ -9,7 +9,7 @@ use Rattle.matchit.specs.Router.{RouteOf, rename, map_key}
 use Rattle.matchit.specs.Seek.{first}
 use Rattle.matchit.proofs.RenameLemmas.{seek-rename}
 use Rattle.route_table.specs.declared.paths.Path.{Path}
-use Rattle.route_table.specs.declared.table.MarkedVerb.{MarkedVerb}
+use Rattle.route_table.specs.declared.verbs.Verb.{Verb}
 use Rattle.route_table.specs.declared.table.Row.{Row}
 use Rattle.route_table.specs.Patterns.{Part, fixed, any, Table, is_segment, joined, route_of}
 use Rattle.route_table.specs.Routes.{FindsRows, known}
@@ -19,7 +19,7 @@ use Rattle.route_table.proofs.Utf8Lemmas.{AreBytes, are_bytes}
 use Rattle.route_table.proofs.OrderLemmas.{sorted, are_distinct, same_sorted}
 
 -- the table's patterns, in the router's order
-abbrev pub in_order : Table (Path × List MarkedVerb)
+abbrev pub in_order : Table (Path × List Verb)
 in_order = sorted (patterns table)
 
 abbrev is_plain : List ℕ → Bool

@@ -10,19 +10,18 @@ use Rattle.matchit.specs.Router.{RouteOf, route_from, nearest}
 use Rattle.matchit.specs.Seek.{first}
 use Rattle.matchit.specs.declared.error.InsertError.{InsertError}
 use Rattle.route_table.specs.declared.paths.Path.{Path}
-use Rattle.route_table.specs.declared.table.MarkedVerb.{MarkedVerb}
 use Rattle.route_table.specs.declared.table.Row.{Row}
 use Rattle.route_table.specs.declared.verbs.Verb.{Verb}
 use Rattle.route_table.specs.Patterns.{is_segment, joined}
-use Rattle.route_table.specs.Table.{availability, found_at, marked}
+use Rattle.route_table.specs.Table.{found_at, has_method, lists}
 
 -- what a row is known by: its path, and the methods that it has
-abbrev pub known : Row → Path × List MarkedVerb
+abbrev pub known : Row → Path × List Verb
 known row = (row.path, row.methods.now)
 
--- the methods of a path say of each method what the table says
-abbrev pub Agrees : Path × List MarkedVerb → Type 0
-Agrees found = (verb : Verb) → marked found.1 verb ≡ availability found.0 verb
+-- the methods of a path are those that the table has
+abbrev pub Agrees : Path × List Verb → Type 0
+Agrees found = (verb : Verb) → lists found.1 verb ≡ has_method found.0 verb
 
 -- the router finds, for the path of any segments, what the table says of them
 pub record FindsRows (router : RowsOf (RouteOf Row)) : Type 0 where

@@ -9,9 +9,8 @@ ghost use Rattle.route_table.specs.Patterns.{joined};
 ghost use Rattle.route_table.specs.Routes.{Agrees, FindsRows, fits, fits_all, known, with_route, with_rows};
 ghost use Rattle.route_table.specs.Table as spec;
 
-use crate::availability::Availability;
 use crate::paths::Path;
-use crate::table::{MarkedVerb, ROUTES, Row, marked};
+use crate::table::{ROUTES, Row, lists};
 use crate::verbs::Verb;
 use doc_tree::{NoMemory, Text};
 use matchit::{InsertError, Router};
@@ -28,12 +27,11 @@ pub struct Routes {
     ghost table: { FindsRows router },
 }
 
-/// A path of the table that was found, known with its methods and their marks. Contracts see it as
-/// the path.
+/// A path of the table that was found, known with its methods. Contracts see it as the path.
 #[derive(Drop)]
 pub struct Found {
     path: Path,
-    methods: &'static [MarkedVerb],
+    methods: &'static [Verb],
 }
 
 impl Model for Found {
@@ -55,11 +53,11 @@ impl Found {
         self.path
     }
 
-    /// What the table says of the path and a method, without a further look through the table.
-    pub fn availability(&self, verb: Verb) -> Availability
-        ensures { result ≡ spec.availability self.now verb }
+    /// Whether the path has the method, without a further look through the table.
+    pub fn has_method(&self, verb: Verb) -> bool
+        ensures { result ≡ spec.has_method self.now verb }
     {
-        marked(self.methods, verb)
+        lists(self.methods, verb)
     }
 }
 

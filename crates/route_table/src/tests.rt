@@ -1,6 +1,5 @@
-//! Paths, their methods and marks, and what is left out.
-use crate::table::marked;
-use crate::{Availability, Found, MarkedVerb, ROUTES, Routes, Row, Verb, is_left_out};
+//! Paths, their methods, and what is left out.
+use crate::{Found, ROUTES, Routes, Row, Verb, is_left_out};
 use doc_tree::{NoMemory, Text};
 use std::alloc::Global;
 use std::test::Fail;
@@ -41,16 +40,17 @@ const PATHS: &str = "/organizations => Some(Organisations)
  => None
 ";
 
-// A path, and the methods that it has, each with its mark.
-const METHODS: &str = "/organizations => GET built, POST built
-/organizations/acme => GET built
-/organizations/acme/nodes => GET built, POST built
-/organizations/acme/nodes/web => GET built, PUT built, DELETE built
-/organizations/acme/groups/admins => GET built, PUT built, DELETE built
-/organizations/acme/data/b/_acl => GET built
-/organizations/acme/policies/p/_acl/read => PUT built
-/organizations/acme/files/1 => GET built, PUT built
-/organizations/acme/search/node => GET built, POST built
+// A path, and the methods that it has.
+const METHODS: &str = "/organizations => GET, POST
+/organizations/acme => GET
+/organizations/acme/nodes => GET, POST
+/organizations/acme/nodes/web => GET, PUT, DELETE
+/organizations/acme/groups/admins => GET, PUT, DELETE
+/organizations/acme/data/b/_acl => GET
+/organizations/acme/policies/p/_acl/read => PUT
+/organizations/acme/files/1 => GET, PUT
+/organizations/acme/search/node => GET, POST
+/organizations/acme/policy_groups/g/policies/p => GET, PUT, DELETE
 /organizations/acme/nowhere => none
 ";
 
@@ -106,29 +106,25 @@ fn unfound_patterns(alloc: Global, routes: &Routes, rows: &[Row]) -> Result<Stri
     Ok(told)
 }
 
-// Adds a method and its mark to those that a path has.
-fn add_method(told: &mut String, name: &str, availability: Availability) -> Result<(), NoMemory> {
-    let mark = match availability {
-        Availability::Built => "built",
-        Availability::Later => "later",
-        Availability::Lacking => return Ok(()),
-    };
+// Adds a method to those that a path has.
+fn add_method(told: &mut String, name: &str, has: bool) -> Result<(), NoMemory> {
+    if !has {
+        return Ok(());
+    }
     if !told.is_empty() {
         told.push_str(", ")?;
     }
     told.push_str(name)?;
-    told.push_str(" ")?;
-    told.push_str(mark)?;
     Ok(())
 }
 
 fn methods_of(alloc: Global, found: Found) -> Result<String, NoMemory> {
     let mut told = String::new(alloc);
-    add_method(&mut told, "GET", found.availability(Verb::Get))?;
-    add_method(&mut told, "POST", found.availability(Verb::Post))?;
-    add_method(&mut told, "PUT", found.availability(Verb::Put))?;
-    add_method(&mut told, "DELETE", found.availability(Verb::Delete))?;
-    add_method(&mut told, "other", found.availability(Verb::Other))?;
+    add_method(&mut told, "GET", found.has_method(Verb::Get))?;
+    add_method(&mut told, "POST", found.has_method(Verb::Post))?;
+    add_method(&mut told, "PUT", found.has_method(Verb::Put))?;
+    add_method(&mut told, "DELETE", found.has_method(Verb::Delete))?;
+    add_method(&mut told, "other", found.has_method(Verb::Other))?;
     Ok(told)
 }
 
@@ -205,23 +201,6 @@ fn paths_have_their_methods(rt: HostRuntime) -> Result<(), Fail> {
     assert_eq!(rt; otherwise.as_str(), "");
     assert!(rt; Verb::Get.is_get() && Verb::Post.is_post());
     Ok(())
-}
-
-#[test]
-fn each_method_has_its_own_mark(rt: HostRuntime) {
-    let methods = [
-        MarkedVerb {
-            verb: Verb::Get,
-            is_built: true,
-        },
-        MarkedVerb {
-            verb: Verb::Put,
-            is_built: false,
-        },
-    ];
-    assert_eq!(rt; marked(&methods, Verb::Get), Availability::Built);
-    assert_eq!(rt; marked(&methods, Verb::Put), Availability::Later);
-    assert_eq!(rt; marked(&methods, Verb::Delete), Availability::Lacking);
 }
 
 #[test]

@@ -1,7 +1,7 @@
 //! What the text of an item spells, read without memory.
 ghost use Rattle.std.specs.Prelude.{◌≡◌, IfOk, codes, option_copied};
 ghost use Rattle.std.specs.List.{before_first};
-ghost use Rattle.run_list.specs.Items.{behind_front, before_bracket, is_at, reads_item, recipe_in, role_in, version_text};
+ghost use Rattle.run_list.specs.Items.{behind_front, before_bracket, is_at, read_by, reads_item, recipe_in, role_in, version_text};
 ghost use Rattle.run_list.specs.Names.{recipe_of};
 ghost use Rattle.run_list.specs.Spelling.{HasItemNames, names_of, outcome_of};
 
@@ -27,17 +27,31 @@ pub(crate) fn spelled_item(text: &str) -> Result<Spelled<'_>, ItemFault>
     ensures names { IfOk result HasItemNames }
 {
     if let Some(rest) = behind_front(text, "recipe[") {
-        match before_bracket(rest) {
-            Some(inner) => spelled_recipe(inner),
-            None => Err(ItemFault::NotAnItem),
-        }
+        recipe_before_bracket(rest)
     } else if let Some(rest) = behind_front(text, "role[") {
-        match before_bracket(rest) {
-            Some(inner) => spelled_role(inner),
-            None => Err(ItemFault::NotAnItem),
-        }
+        role_before_bracket(rest)
     } else {
         spelled_recipe(text)
+    }
+}
+
+fn recipe_before_bracket(text: &str) -> Result<Spelled<'_>, ItemFault>
+    ensures reads { outcome_of result ≡ read_by recipe_in (before_bracket text.now) }
+    ensures names { IfOk result HasItemNames }
+{
+    match before_bracket(text) {
+        Some(inner) => spelled_recipe(inner),
+        None => Err(ItemFault::NotAnItem),
+    }
+}
+
+fn role_before_bracket(text: &str) -> Result<Spelled<'_>, ItemFault>
+    ensures reads { outcome_of result ≡ read_by role_in (before_bracket text.now) }
+    ensures names { IfOk result HasItemNames }
+{
+    match before_bracket(text) {
+        Some(inner) => spelled_role(inner),
+        None => Err(ItemFault::NotAnItem),
     }
 }
 

@@ -17,12 +17,15 @@ use indexmap::IndexMap;
 use std::alloc::Global;
 use std::marker::Model;
 
+/// What is kept for each organisation, by their names.
+type Parts = IndexMap<Text, Part>;
+
 /// The files and uncommitted sandboxes of organisations, and how many sandboxes each has made. What
 /// a call does for one organisation leaves what every other has as it was. Contracts see what is kept
 /// by the names of the organisations; one that was never named has nothing.
 #[derive(Drop)]
 pub struct Files {
-    parts: IndexMap<Text, Part>,
+    parts: Parts,
 }
 
 impl Model for Files {
@@ -68,9 +71,9 @@ impl Files {
         ensures spare { spare_of self.old org.now ≤ spare_of self.new org.now }
         ensures others { OthersStay org.now self.old self.new }
     {
-        let mut part = Part::none(alloc);
-        part.reserve(count)?;
-        self.parts.insert(org.copy(alloc)?, part)?;
+        let name = org.copy(alloc)?;
+        let part = Part::with_room(alloc, count)?;
+        drop(self.parts.insert(name, part)?);
         Ok(())
     }
 
@@ -193,9 +196,17 @@ impl Files {
         ensures { IfOk result (λ files. (name : List ℕ) → holding_of files name ≡ holding_of self.now name) }
     {
         let mut parts = IndexMap::with_capacity(alloc, self.parts.len())?;
-        for (org, part) in &self.parts {
-            add(&mut parts, org.copy(alloc)?, part.copy(alloc)?)?;
-        }
-        Ok(Files { parts })
+        add_copies(alloc, &self.parts, &mut parts).and(Ok(Files { parts }))
     }
+}
+
+// Adds a copy of each part to a map that has none.
+fn add_copies(alloc: Global, parts: &Parts, copies: &mut Parts) -> Result<(), NoMemory>
+    requires { copies.old.entries ≡ [] }
+    ensures { OnOk result ((name : List ℕ) → holding_of (finite.from_entries copies.new.entries) name ≡ holding_of (finite.from_entries parts.now.entries) name) }
+{
+    for (org, part) in parts {
+        add(copies, org.copy(alloc)?, part.copy(alloc)?)?;
+    }
+    Ok(())
 }

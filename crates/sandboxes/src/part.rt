@@ -62,6 +62,15 @@ impl Part {
         }
     }
 
+    /// Nothing, and room for at least `count` files, and as many sandboxes.
+    pub fn with_room(alloc: Global, count: usize) -> Result<Part, NoMemory>
+        ensures holding { IfOk result (λ part. part.holding ≡ nothing) }
+        ensures spare { IfOk result (λ part. count ≤ part.spare) }
+    {
+        let mut part = Part::none(alloc);
+        part.reserve(count).and(Ok(part))
+    }
+
     /// Makes room for at least `count` further files, and as many sandboxes.
     pub fn reserve(&mut self, count: usize) -> Result<(), NoMemory>
         ensures holding { self.new.holding ≡ self.old.holding }
@@ -238,10 +247,22 @@ fn copy_files(
     ensures { IfOk result (λ copy. copy.entries ≡ files.now.entries) }
 {
     let mut copy = IndexMap::with_capacity(alloc, files.len())?;
+    add_files(alloc, files, &mut copy).and(Ok(copy))
+}
+
+// Adds a copy of each file to a map that has none.
+fn add_files(
+    alloc: Global,
+    files: &IndexMap<Checksum, Stored>,
+    copy: &mut IndexMap<Checksum, Stored>,
+) -> Result<(), NoMemory>
+    requires { copy.old.entries ≡ [] }
+    ensures { OnOk result (copy.new.entries ≡ files.now.entries) }
+{
     for (sum, stored) in files {
-        add(&mut copy, *sum, stored.copy(alloc)?)?;
+        add(copy, *sum, stored.copy(alloc)?)?;
     }
-    Ok(copy)
+    Ok(())
 }
 
 fn copy_sandboxes(
@@ -251,8 +272,20 @@ fn copy_sandboxes(
     ensures { IfOk result (λ copy. copy.entries ≡ sandboxes.now.entries) }
 {
     let mut copy = IndexMap::with_capacity(alloc, sandboxes.len())?;
+    add_sandboxes(alloc, sandboxes, &mut copy).and(Ok(copy))
+}
+
+// Adds a copy of each sandbox to a map that has none.
+fn add_sandboxes(
+    alloc: Global,
+    sandboxes: &IndexMap<Checksum, Sums>,
+    copy: &mut IndexMap<Checksum, Sums>,
+) -> Result<(), NoMemory>
+    requires { copy.old.entries ≡ [] }
+    ensures { OnOk result (copy.new.entries ≡ sandboxes.now.entries) }
+{
     for (id, sums) in sandboxes {
-        add(&mut copy, *id, sums.copy(alloc)?)?;
+        add(copy, *id, sums.copy(alloc)?)?;
     }
-    Ok(copy)
+    Ok(())
 }

@@ -114,16 +114,40 @@ impl Found {
 pub(crate) fn both(alloc: Global, one: Found, other: Found) -> Result<Found, NoMemory>
     ensures { IfOk result (λ found. (x : ℕ) → has found x ≡ (has one x && has other x)) }
 {
-    let (others, numbers) = match (one.others, other.others) {
+    match (one.others, other.others) {
         (false, false) if one.numbers.len() <= other.numbers.len() => {
-            (false, kept(alloc, &one.numbers, &other.numbers, true)?)
+            found_among(alloc, &one.numbers, &other.numbers, true)
         }
-        (false, false) => (false, kept(alloc, &other.numbers, &one.numbers, true)?),
-        (false, true) => (false, kept(alloc, &one.numbers, &other.numbers, false)?),
-        (true, false) => (false, kept(alloc, &other.numbers, &one.numbers, false)?),
-        (true, true) => (true, either(alloc, &one.numbers, &other.numbers)?),
-    };
-    Ok(Found { others, numbers })
+        (false, false) => found_among(alloc, &other.numbers, &one.numbers, true),
+        (false, true) => found_among(alloc, &one.numbers, &other.numbers, false),
+        (true, false) => found_among(alloc, &other.numbers, &one.numbers, false),
+        (true, true) => found_in_neither(alloc, &one.numbers, &other.numbers),
+    }
+}
+
+/// The objects of some numbers that are among others, or of those that aren't.
+fn found_among(
+    alloc: Global,
+    these: &Numbers,
+    others: &Numbers,
+    wanted: bool,
+) -> Result<Found, NoMemory>
+    ensures { IfOk result (λ found. (x : ℕ) → has found x ≡ (is_in these.now x && both_are (is_in others.now x) wanted)) }
+{
+    Ok(Found {
+        others: false,
+        numbers: kept(alloc, these, others, wanted)?,
+    })
+}
+
+/// The objects of all numbers but those of both.
+fn found_in_neither(alloc: Global, one: &Numbers, other: &Numbers) -> Result<Found, NoMemory>
+    ensures { IfOk result (λ found. (x : ℕ) → has found x ≡ not (is_in (one.now ++ other.now) x)) }
+{
+    Ok(Found {
+        others: true,
+        numbers: either(alloc, one, other)?,
+    })
 }
 
 /// Those of some numbers that are among others, or those that aren't.

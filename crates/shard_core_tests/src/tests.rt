@@ -16,7 +16,7 @@ use org_core::{
     Place, Reply, Request, Route, SearchRoute,
 };
 use org_machine::serve;
-use route_table::{Availability, Verb};
+use route_table::Verb;
 use sandboxes::Files;
 use shard_core::Indexed;
 use std::alloc::Global;
@@ -177,7 +177,7 @@ fn request(
         api: Some(0),
         verb,
         place: Place::Of { org, route },
-        availability: Availability::Built,
+        has_method: true,
         asked,
         body,
         close: false,

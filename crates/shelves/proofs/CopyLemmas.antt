@@ -1,8 +1,17 @@
--- Shelves that are copied one by one.
+-- Shelves and entries that are copied one by one.
 use Rattle.std.proofs.Common.{◌≡◌, ◌<◌, ◌+◌, ℕ, List, [], ◌∷◌, ◌++◌, length, map, take, get_or, refl, sym, ap, ◌∙◌}
 use Rattle.std.proofs.lemmas.List.{map_push, take_more}
 use Rattle.shelves.specs.SortedMap.{Sorted}
 use Rattle.shelves.specs.Rooms.{shelves_seen}
+
+-- one more entry, equal to the next
+pub entry_more : {K V : Type 0} (entries made new : List (K × V)) (i : ℕ) (x : K × V) (key : K) (value : V) → i < length entries → x ≡ get_or entries i x
+    → made ≡ take i entries → new ≡ made ++ (key, value) ∷ [] → key ≡ x.0 → value ≡ x.1 → new ≡ take (i + 1) entries
+entry_more entries made new i x key value within is before more same_key same_value =
+    more
+    ∙ (λ k. before k ++ (same_key k, same_value k) ∷ [])
+    ∙ ap (λ e. take i entries ++ e ∷ []) is
+    ∙ sym (take_more entries i x within)
 
 module _ {K V : Type 0} where
   -- one more shelf, with the name and the entries of the next

@@ -56,6 +56,11 @@ module _ {K V : Type 0} where
     pool = have.pool;
   }
 
+  -- every shelf has room for nothing more
+  pub no_room_each : (shelves : List (List ℕ × Sorted K V)) → HaveRoomEach 0 shelves
+  no_room_each [] = tt
+  no_room_each (e ∷ shelves) = (omega arith, no_room_each shelves)
+
   -- the last of the pool
   pub pool_last : (n : ℕ) (old new : List (Sorted K V)) (shelf : Sorted K V) → old ≡ new ++ shelf ∷ [] → AllByRecursion (IsFresh n) old → IsFresh n shelf
   pool_last n old new shelf is all = all_last (IsFresh n) new shelf (subst (λ l. AllByRecursion (IsFresh n) l) is all)

@@ -1,9 +1,9 @@
 //! Values by a name and then a key: the values of one name stand on one shelf.
 ghost use Rattle.shelves.specs.Shelves.{shelves_of, has_shelf, value_at, put, without, AreFilled};
 ghost use Rattle.shelves.specs.SortedMap.{map_of};
-ghost use Rattle.shelves.specs.Rooms.{shelves_seen, HaveRoomEach, AreFresh};
+ghost use Rattle.shelves.specs.Rooms.{shelves_seen, HaveRoom, HaveRoomEach, AreFresh};
 ghost use Rattle.std.specs.FinMap as finite;
-ghost use Rattle.std.specs.Prelude.{ℕ, ◌≡◌, ◌+◌, ◌≤◌, IfOk, OnOk, length, map, option_map, option_copied};
+ghost use Rattle.std.specs.Prelude.{ℕ, ◌≡◌, ◌+◌, ◌-◌, ◌≤◌, [], IfOk, OnOk, length, map, option_map, option_copied, vec_capacity, vec_len};
 
 use crate::duplicate::Duplicate;
 use crate::places::search;
@@ -99,10 +99,7 @@ impl<K: Ord + Drop, V: Drop> Shelves<K, V> {
         ensures spare { self.old.spare ≤ self.new.spare }
     {
         if count > self.spare {
-            self.shelves.reserve(count)?;
-            reserve_on_each(&mut self.shelves, count)?;
-            reserve_in_pool(&mut self.fresh, count)?;
-            fill_pool(self.alloc, &mut self.fresh, count)?;
+            make_room(self.alloc, &mut self.shelves, &mut self.fresh, count)?;
             self.spare = count;
         }
         Ok(())
@@ -121,9 +118,11 @@ impl<K: Ord + Drop, V: Drop> Shelves<K, V> {
             Ok(at) => self.shelves[at].1.insert(key, value),
             Err(at) => {
                 // The pool has as many shelves as there is room for values, and so have the shelves.
-                let mut shelf = self.fresh.pop()?;
+                let Some(mut shelf) = self.fresh.pop() else {
+                    unreachable!();
+                };
                 let old = shelf.insert(key, value);
-                let _ = self.shelves.insert(at, (name, shelf));
+                drop(self.shelves.insert(at, (name, shelf)));
                 old
             }
         }
@@ -141,7 +140,7 @@ impl<K: Ord + Drop, V: Drop> Shelves<K, V> {
                 let shelf = &mut self.shelves[at].1;
                 let value = shelf.remove(key);
                 if shelf.is_empty() {
-                    let _ = self.shelves.remove(at);
+                    drop(self.shelves.remove(at));
                 }
                 value
             }
@@ -155,7 +154,7 @@ impl<K: Ord + Drop, V: Drop> Shelves<K, V> {
         ensures spare { self.old.spare ≤ self.new.spare }
     {
         if let Ok(at) = search(&self.shelves, name) {
-            let _ = self.shelves.remove(at);
+            drop(self.shelves.remove(at));
         }
     }
 }
@@ -165,8 +164,10 @@ impl<K: Ord + Duplicate + Drop, V: Duplicate + Drop> Shelves<K, V> {
     pub fn copy(&self, alloc: Global) -> Result<Shelves<K, V>, NoMemory>
         ensures shelves { IfOk result (λ copy. shelves_of K.cmp copy ≡ shelves_of K.cmp self.now) }
     {
+        let mut shelves = Vec::with_capacity(alloc, self.shelves.len())?;
+        push_copies(alloc, &self.shelves, &mut shelves)?;
         Ok(Shelves {
-            shelves: copies(alloc, &self.shelves)?,
+            shelves,
             fresh: Vec::new(alloc),
             spare: 0,
             alloc,
@@ -174,18 +175,37 @@ impl<K: Ord + Duplicate + Drop, V: Duplicate + Drop> Shelves<K, V> {
     }
 }
 
-/// Copies of shelves, with their names.
-fn copies<K: Ord + Duplicate + Drop, V: Duplicate + Drop>(
+/// Puts copies of shelves, with their names, where there are none yet.
+fn push_copies<K: Ord + Duplicate + Drop, V: Duplicate + Drop>(
     alloc: Global,
     shelves: &[(Text, SortedMap<K, V>)],
-) -> Result<Vec<(Text, SortedMap<K, V>)>, NoMemory>
-    ensures { IfOk result (λ made. shelves_seen made.items ≡ shelves_seen shelves.now) }
+    made: &mut Vec<(Text, SortedMap<K, V>)>,
+) -> Result<(), NoMemory>
+    requires { made.old.items ≡ [] }
+    ensures { OnOk result (shelves_seen made.new.items ≡ shelves_seen shelves.now) }
 {
-    let mut made = Vec::with_capacity(alloc, shelves.len())?;
     for (name, shelf) in shelves {
         made.push((name.copy(alloc)?, shelf.copy(alloc)?))?;
     }
-    Ok(made)
+    Ok(())
+}
+
+/// Makes room for further shelves, on each shelf and in the pool.
+fn make_room<K: Ord + Drop, V: Drop>(
+    alloc: Global,
+    shelves: &mut Vec<(Text, SortedMap<K, V>)>,
+    fresh: &mut Vec<SortedMap<K, V>>,
+    count: usize,
+) -> Result<(), NoMemory>
+    ensures seen { shelves_seen shelves.new.items ≡ shelves_seen shelves.old.items }
+    ensures room { (spare : ℕ) → spare ≤ count → HaveRoom spare shelves.old.items (vec_capacity shelves.old - vec_len shelves.old) fresh.old.items → HaveRoom spare shelves.new.items (vec_capacity shelves.new - vec_len shelves.new) fresh.new.items }
+    ensures ok { OnOk result ((spare : ℕ) → AreFresh spare fresh.old.items → HaveRoom count shelves.new.items (vec_capacity shelves.new - vec_len shelves.new) fresh.new.items) }
+{
+    shelves.reserve(count)?;
+    reserve_on_each(shelves, count)?;
+    reserve_in_pool(fresh, count)?;
+    fill_pool(alloc, fresh, count)?;
+    Ok(())
 }
 
 /// Makes room on each shelf.

@@ -119,7 +119,7 @@ impl<K: Ord + Drop, V: Drop> SortedMap<K, V> {
             Ok(at) => Some(mem::replace(&mut self.items[at].1, value)),
             Err(at) => {
                 // There is room, so it goes in.
-                let _ = self.items.insert(at, (key, value));
+                drop(self.items.insert(at, (key, value)));
                 None
             }
         }
@@ -159,13 +159,25 @@ impl<K: Ord + Duplicate + Drop, V: Duplicate + Drop> SortedMap<K, V> {
     pub fn copy(&self, alloc: Global) -> Result<SortedMap<K, V>, NoMemory>
         ensures entries { IfOk result (λ copy. copy.entries ≡ self.now.entries) }
     {
-        let entries = self.items.as_slice();
-        let mut copies = Vec::with_capacity(alloc, entries.len())?;
-        for (key, value) in entries {
-            copies.push((key.duplicate(alloc)?, value.duplicate(alloc)?))?;
-        }
-        Ok(SortedMap { items: copies })
+        let mut items = Vec::with_capacity(alloc, self.items.len())?;
+        push_copies(alloc, &self.items, &mut items)?;
+        Ok(SortedMap { items })
     }
+}
+
+/// Puts copies of entries where there are none yet.
+fn push_copies<K: Duplicate + Drop, V: Duplicate + Drop>(
+    alloc: Global,
+    entries: &[(K, V)],
+    made: &mut Vec<(K, V)>,
+) -> Result<(), NoMemory>
+    requires { made.old.items ≡ [] }
+    ensures { OnOk result (made.new.items ≡ entries.now) }
+{
+    for (key, value) in entries {
+        made.push((key.duplicate(alloc)?, value.duplicate(alloc)?))?;
+    }
+    Ok(())
 }
 
 /// Has the value of each entry forget what it has under a name.

@@ -150,6 +150,15 @@ fn frame_doc(alloc: Global, frame: Frame) -> Result<Document, NoMemory>
     }
 }
 
+// The document of a block in which a node may be due.
+fn settled_doc(alloc: Global, due: bool, frame: Frame) -> Result<Document, NoMemory>
+    ensures { IfOk result (λ d. d ≡ frame_doc (settle due frame)) }
+{
+    let mut frame = frame;
+    settle(alloc, due, &mut frame)?;
+    frame_doc(alloc, frame)
+}
+
 fn closes(mark: &Mark, frame: &Frame) -> bool
     ensures { result ≡ closes mark.now frame.now }
 {
@@ -283,12 +292,10 @@ fn close(alloc: Global, outer: Frame, within: &mut Opened) -> Result<(), NoMemor
     ensures frame { OnOk result (within.new.frame ≡ fill (frame_doc (settle within.old.due within.old.frame)) outer) }
     ensures below { OnOk result (within.new.below ≡ within.old.below) }
 {
-    settle(alloc, within.due, &mut within.frame)?;
+    let due = replace(&mut within.due, false);
     let inner = replace(&mut within.frame, outer);
-    let document = frame_doc(alloc, inner)?;
-    fill(alloc, document, &mut within.frame)?;
-    within.due = false;
-    Ok(())
+    let document = settled_doc(alloc, due, inner)?;
+    fill(alloc, document, &mut within.frame)
 }
 
 // The blocks that a mark lies outside of close, one by one.
@@ -365,11 +372,10 @@ fn close_all(alloc: Global, within: Opened) -> Result<Document, NoMemory>
 {
     let Opened {
         due,
-        mut frame,
+        frame,
         mut below,
     } = within;
-    settle(alloc, due, &mut frame)?;
-    let mut document = frame_doc(alloc, frame)?;
+    let mut document = settled_doc(alloc, due, frame)?;
     while let Some(mut outer) = below.pop() {
         fill(alloc, document, &mut outer)?;
         document = frame_doc(alloc, outer)?;

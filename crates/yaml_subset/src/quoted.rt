@@ -1,5 +1,5 @@
 //! Quoted scalars: what stands between the quotes.
-ghost use Rattle.std.specs.Prelude.{◌≡◌, ◌<◌, ◌≤◌, ◌&&◌, ◌++◌, IfOk, IfSome, OnOk, Some, None, if◌then◌else◌, length, nat_lt};
+ghost use Rattle.std.specs.Prelude.{◌≡◌, ◌<◌, ◌≤◌, ◌&&◌, ◌++◌, ◌+◌, ◌*◌, IfOk, IfSome, OnOk, Some, None, if◌then◌else◌, length, nat_lt};
 ghost use Rattle.std.specs.Char.{digit_value, encode_utf8};
 ghost use Rattle.yaml_subset.specs.Quoted.{begins, escape, hex_value, is_hex, is_surrogate, quoted, quoted_text, simple, standing, unicode};
 ghost use Rattle.yaml_subset.specs.declared.quoted.Stands.TheVariants as variant;
@@ -55,11 +55,19 @@ fn hex_value(a: u8, b: u8, c: u8, d: u8) -> Option<u32>
     ensures value { result ≡ (if is_hex a && (is_hex b && (is_hex c && is_hex d)) then Some (hex_value a b c d) else None) }
     ensures small { IfSome result (λ code. code < 65536) }
 {
-    let a = hex_digit(a)?;
-    let b = hex_digit(b)?;
-    let c = hex_digit(c)?;
-    let d = hex_digit(d)?;
-    Some(((a * 16 + b) * 16 + c) * 16 + d)
+    let high = hex_pair(a, b)?;
+    let low = hex_pair(c, d)?;
+    Some(high * 256 + low)
+}
+
+// The number of two hexadecimal digits.
+fn hex_pair(a: u8, b: u8) -> Option<u32>
+    ensures value { result ≡ (if is_hex a && is_hex b then Some (digit_value a * 16 + digit_value b) else None) }
+    ensures small { IfSome result (λ code. code < 256) }
+{
+    let high = hex_digit(a)?;
+    let low = hex_digit(b)?;
+    Some(high * 16 + low)
 }
 
 fn character(code: u32) -> Stands

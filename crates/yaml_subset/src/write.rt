@@ -133,14 +133,22 @@ fn write_hex(out: &mut String, character: char) -> Result<(), NoMemory>
     let code = character as u32;
     out.push_str("\\u00")?;
     if code < 16 {
-        out.push_str("0")?;
-        out.push(hex_digit(code))?;
+        write_pair(out, "0", code)
     } else if code < 32 {
-        out.push_str("1")?;
-        out.push(hex_digit(code - 16))?;
+        write_pair(out, "1", code - 16)
     } else {
         out.push_str("7f")?;
+        Ok(())
     }
+}
+
+// A hexadecimal digit and the one of this value behind it.
+fn write_pair(out: &mut String, first: &str, value: u32) -> Result<(), NoMemory>
+    requires { value < 16 }
+    ensures { OnOk result (string_bytes out.new ≡ string_bytes out.old ++ (first.now ++ digit_char value ∷ [])) }
+{
+    out.push_str(first)?;
+    out.push(hex_digit(value))?;
     Ok(())
 }
 

@@ -1,4 +1,4 @@
-use Rattle.std.proofs.Common.{sym, subst}
+use Rattle.std.proofs.Common.{refl, sym, subst}
 use Rattle.access_lists.specs.Rooms.{Entries, groups_seen}
 use Rattle.access_lists.proofs.CopyingLemmas.{Copying, Copying-none, Copying-more, Copying-all}
 use Rattle.access_lists.proofs.group_map.copy_items.Goals as goal
@@ -13,8 +13,8 @@ loop-name-init c =
 pub loop-name-preserved : goal.loop-name-preserved
 loop-name-preserved c =
     let here = subst (λ (left : Entries). Copying c.args.items.now.entries (groups_seen c.loop-name.made.entries) left) c.in-Some.ensures.steps c.loop-name.invariant in
-    Copying-more c.args.items.now.entries (groups_seen c.loop-name.made.entries) (groups_seen c.add.new.items.entries) c.in-Some.name.now c.in-Some.group.now c.next.new.self
-    c.in_ok-copy.field-0 c.in_ok-copy-2.field-0.members here c.in_ok-copy.ensures c.in_ok-copy-2.ensures c.in_ok-add.ensures
+    Copying-more c.args.items.now.entries (groups_seen c.loop-name.made.entries) (groups_seen c.add_copy.new.made.entries) c.in-Some.name.now c.in-Some.group.now c.next.new.self
+    c.in-Some.name.now c.in-Some.group.now.members here refl refl c.in_ok-add_copy.ensures
 
 pub returns : goal.returns
 returns c = Copying-all c.args.items.now.entries c.loop-name.name-iterator (groups_seen c.loop-name.made.entries) c.loop-name.invariant c.in-None.ensures.steps.0

@@ -1,6 +1,6 @@
 use Rattle.std.proofs.Common.{◌≤◌, ◌-◌}
 use Rattle.http_wire.specs.Room.{stream}
-use Rattle.chefsite.specs.Shards.{site_states, IsSite}
+use Rattle.site_shards.specs.Shards.{site_states, IsSite}
 use Rattle.chefsite.specs.Turns.{SoFar}
 use Rattle.chefsite.proofs.answering.answer_all.Given as goal
 

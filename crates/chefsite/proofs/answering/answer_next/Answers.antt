@@ -1,5 +1,5 @@
 -- A message was taken and its request served, and its reply wasn't written.
-use Rattle.chefsite.specs.Shards.{site_states}
+use Rattle.site_shards.specs.Shards.{site_states}
 use Rattle.chefsite.proofs.TurnLemmas.{ended_turn}
 use Rattle.chefsite.proofs.answering.answer_next.Goals as goal
 

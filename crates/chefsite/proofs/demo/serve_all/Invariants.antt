@@ -1,6 +1,6 @@
 use Rattle.std.proofs.Common.{◌≡◌, ◌*◌, length}
 use Rattle.demo_requests.specs.DemoRequests.{demo_requests}
-use Rattle.chefsite.specs.Shards.{site_states, IsSite}
+use Rattle.site_shards.specs.Shards.{site_states, IsSite}
 use Rattle.chefsite.specs.Demonstrating.{Demonstrating}
 use Rattle.chefsite.proofs.demo.serve_all.Given as goal
 

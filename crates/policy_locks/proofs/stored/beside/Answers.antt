@@ -6,8 +6,8 @@ use Rattle.cookbook_meta.proofs.KeyLemmas.{InOrder-beside}
 use Rattle.policy_locks.specs.Stored.{is_settled}
 use Rattle.policy_locks.proofs.stored.beside.Goals as goal
 
-pub push-requires : goal.push-requires
-push-requires c =
+pub push_copy-requires : goal.push_copy-requires
+push_copy-requires c =
     let order = subst (λ (ps : List (List ℕ × Doc)). InOrder (keys_of ps)) (sym c.as_slice-field-items.ensures.value) c.as_slice-field-items.ensures.order in
     let unlisted : is_settled c.field-item.result.key ≡ false = ap is_settled (sym c.as_str.ensures.value) ∙ sym c.is_settled.ensures ∙ c.if-not-is_settled.true in
-    rw c.in_ok-copy.ensures (InOrder-beside is_settled c.as_slice-field-items.result.now c.loop-field.field-index c.field-item.result c.loop-field.made (omega arith) c.field-item.is unlisted order c.loop-field.invariant)
+    InOrder-beside is_settled c.as_slice-field-items.result.now c.loop-field.field-index c.field-item.result c.loop-field.made (omega arith) c.field-item.is unlisted order c.loop-field.invariant

@@ -1,7 +1,7 @@
 use Rattle.std.proofs.Common.{◌∙◌, ap, sym}
 use Rattle.std.specs.Option.{option_map}
 use Rattle.route_table.specs.Routes.{known}
-use Rattle.route_table.proofs.AvailabilityLemmas.{found_agrees, row_found, path_found}
+use Rattle.route_table.proofs.MethodLemmas.{found_agrees, row_found, path_found}
 use Rattle.route_table.proofs.routes.Routes.found.Goals as goal
 
 pub returns-in-Some : goal.returns-in-Some

@@ -64,7 +64,7 @@ returns-in-Ok-clause-value g c =
 pub insert-old-requires : goal.insert-old-requires
 insert-old-requires g c =
     let one : 1 ≤ c.self.inside.spare = rw (← c.self.view_is) at c.requires in
-    let fresh = pool_last c.self.inside.spare c.self.inside.fresh.items c.pop.new.self.items c.in_ok-shelf-in-Err.shelf c.in_ok-shelf-in-Err.ensures.items c.self.invariant.room.pool in
+    let fresh = pool_last c.self.inside.spare c.self.inside.fresh.items c.pop.new.self.items c.in-Some.shelf c.in-Some.ensures.items c.self.invariant.room.pool in
     omega (arith, one, fresh.room)
 
 pub invariant_of-self-in-Err : goal.invariant_of-self-in-Err
@@ -78,17 +78,17 @@ invariant_of-self-in-Err g c =
     let ok = c.insert-in-Err.ensures.succeeds (omega (arith, one, c.self.invariant.room.more)) in
     let is = added_is text_cmp nat_list_cmp_total shelf _ gap c.insert-in-Err.ensures.items ok in
     let len : vec_len c.insert-in-Err.new.self ≡ vec_len c.self.inside.shelves + 1 = c.insert-in-Err.ensures.len ∙ ap (λ b. cond b (vec_len c.self.inside.shelves + 1) (vec_len c.self.inside.shelves)) ok in
-    let popped = c.in_ok-shelf-in-Err.ensures.items in
-    let fresh = pool_last c.self.inside.spare c.self.inside.fresh.items c.pop.new.self.items c.in_ok-shelf-in-Err.shelf popped c.self.invariant.room.pool in
-    let left = pool_front c.self.inside.spare c.self.inside.fresh.items c.pop.new.self.items c.in_ok-shelf-in-Err.shelf popped c.self.invariant.room.pool in
+    let popped = c.in-Some.ensures.items in
+    let fresh = pool_last c.self.inside.spare c.self.inside.fresh.items c.pop.new.self.items c.in-Some.shelf popped c.self.invariant.room.pool in
+    let left = pool_front c.self.inside.spare c.self.inside.fresh.items c.pop.new.self.items c.in-Some.shelf popped c.self.invariant.room.pool in
     let count : length c.self.inside.fresh.items ≡ length c.pop.new.self.items + 1 = ap length popped ∙ length-append c.pop.new.self.items _ in
     record {
       shelves = are-put R o shelves _ c.args.name c.self.invariant.shelves shelf is (shelf-put R o shelf _ c.args.key c.args.value c.insert-old.ensures.order c.insert-old.ensures.map);
       room = room-put c.self.inside.spare _ _ shelves _ _ _ c.args.name shelf c.self.invariant.room is (omega (arith, fresh.room, c.insert-old.ensures.spare)) (omega (arith, len, c.insert-in-Err.ensures.capacity)) (omega (arith, count)) left;
     }
 
-pub returns-in_ok-shelf-in-Err-clause-shelves : goal.returns-in_ok-shelf-in-Err-clause-shelves
-returns-in_ok-shelf-in-Err-clause-shelves g c =
+pub returns-in-Some-clause-shelves : goal.returns-in-Some-clause-shelves
+returns-in-Some-clause-shelves g c =
     let R = g.K.Ord.cmp in
     let o = g.met.K.Ord.total in
     let one : 1 ≤ c.self.inside.spare = rw (← c.self.view_is) at c.requires in
@@ -96,16 +96,16 @@ returns-in_ok-shelf-in-Err-clause-shelves g c =
     let shelf = c.insert-old.new.self in
     let gap = gap_in text_cmp nat_list_cmp_total c.args.name c.deref.ensures.value c.in-Err.ensures in
     let is = added_is text_cmp nat_list_cmp_total shelf _ gap c.insert-in-Err.ensures.items (c.insert-in-Err.ensures.succeeds (omega (arith, one, c.self.invariant.room.more))) in
-    let fresh = pool_last c.self.inside.spare c.self.inside.fresh.items c.pop.new.self.items c.in_ok-shelf-in-Err.shelf c.in_ok-shelf-in-Err.ensures.items c.self.invariant.room.pool in
+    let fresh = pool_last c.self.inside.spare c.self.inside.fresh.items c.pop.new.self.items c.in-Some.shelf c.in-Some.ensures.items c.self.invariant.room.pool in
     let none = ap (λ l. finite.from_sorted {R = R} l) fresh.empty ∙ map_none R o in
     rw (← c.self.view_is) (put_is R o shelves _ c.args.name c.self.invariant.shelves c.args.key c.args.value shelf _ is (none ∙ shelf_none R o shelves c.args.name _ c.self.invariant.shelves gap) c.insert-old.ensures.map)
 
-pub returns-in_ok-shelf-in-Err-clause-value : goal.returns-in_ok-shelf-in-Err-clause-value
-returns-in_ok-shelf-in-Err-clause-value g c =
+pub returns-in-Some-clause-value : goal.returns-in-Some-clause-value
+returns-in-Some-clause-value g c =
     let R = g.K.Ord.cmp in
     let o = g.met.K.Ord.total in
     let shelves = c.self.inside.shelves.items in
     let gap = gap_in text_cmp nat_list_cmp_total c.args.name c.deref.ensures.value c.in-Err.ensures in
-    let fresh = pool_last c.self.inside.spare c.self.inside.fresh.items c.pop.new.self.items c.in_ok-shelf-in-Err.shelf c.in_ok-shelf-in-Err.ensures.items c.self.invariant.room.pool in
+    let fresh = pool_last c.self.inside.spare c.self.inside.fresh.items c.pop.new.self.items c.in-Some.shelf c.in-Some.ensures.items c.self.invariant.room.pool in
     let none = ap (λ l. finite.from_sorted {R = R} l) fresh.empty ∙ map_none R o in
     rw (← c.self.view_is) (c.insert-old.ensures.value ∙ ap (λ m. finite.get m c.args.key) (none ∙ shelf_none R o shelves c.args.name _ c.self.invariant.shelves gap))

@@ -1,5 +1,0 @@
-use Rattle.object_store.proofs.LateLemmas.{Copying}
-use Rattle.object_store.proofs.late.copy_late.Given as goal
-
-abbrev pub invariant-loop-key : goal.invariant-loop-key
-invariant-loop-key l = Copying l.fn.late.entries l.made.entries l.key-iterator

@@ -1,6 +1,0 @@
-use Rattle.object_store.proofs.CopyingLemmas.{Copied}
-use Rattle.object_store.proofs.shelves.copy_shelf.Given as goal
-
--- the entries so far, and those that are left
-abbrev pub invariant-loop-name : goal.invariant-loop-name
-invariant-loop-name l = Copied (λ tree name. tree) l.fn.shelf.entries l.made l.name-iterator

@@ -1,0 +1,3 @@
+pub mod IndexLemmas
+pub mod ShardLemmas
+pub mod ListingLemmas

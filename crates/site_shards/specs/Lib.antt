@@ -1,0 +1,4 @@
+pub mod Organisations
+pub mod Indexing
+pub mod Shards
+pub mod Listing

@@ -1,0 +1,96 @@
+//! All the organisations of a site, over its shards.
+
+ghost use Rattle.std.specs.Prelude.{◌≡◌, ◌⊎◌, ℕ, List, None, Some};
+ghost use Rattle.org_core.specs.declared.requests.Request.{Request};
+ghost use Rattle.org_machine.specs.Alone.{Lists, OutsideAnswer};
+ghost use Rattle.org_core.specs.Refusals.{out_of_memory};
+ghost use Rattle.org_core.specs.Requests.{org_of};
+ghost use Rattle.org_machine.specs.Marks.{mark_of, answer, IsLawful};
+ghost use Rattle.org_machine.specs.Serving.{Serves, state_then};
+ghost use Rattle.http_wire.specs.Requests.{IsRead};
+ghost use Rattle.site_shards.specs.Shards.{site_states, IsSite};
+
+use crate::listing::list;
+use crate::numbers::shard_of;
+use crate::shards::Shard;
+use doc_tree::{NoMemory, Steps, Text};
+use org_machine::{Place, Reply, Request, is_listing, out_of_memory, serve_outside};
+use std::alloc::Global;
+use std::sync::ledger::Ledger;
+
+/// Serves one request over the shards of a site. A request whose parts found no memory is answered
+/// so, whatever its bytes spell.
+pub fn serve<L: Ledger>(
+    alloc: Global,
+    shards: &mut [Shard],
+    request: Request,
+    steps: &mut Steps<L>,
+) -> Reply
+    requires { IsSite shards.old }
+    ensures { (spelled : Request) → IsRead request spelled →
+        Serves (site_states shards.old) spelled result (site_states shards.new) }
+{
+    serve_at(alloc, shards, &request, steps)
+}
+
+// The request is lent, so that it is dropped at one place.
+fn serve_at<L: Ledger>(
+    alloc: Global,
+    shards: &mut [Shard],
+    request: &Request,
+    steps: &mut Steps<L>,
+) -> Reply
+    requires { IsSite shards.old }
+    ensures { (spelled : Request) → IsRead request.now spelled →
+        Serves (site_states shards.old) spelled result (site_states shards.new) }
+{
+    match &request.place {
+        Place::Of { org, route: _ } => serve_own(alloc, shards, org, request, steps),
+        Place::Organisations | Place::LeftOut | Place::NoRoute => {
+            serve_of_none(alloc, shards, request)
+        }
+        Place::NoMemory => out_of_memory(),
+    }
+}
+
+// A request of no organisation changes nothing.
+fn serve_of_none(alloc: Global, shards: &[Shard], request: &Request) -> Reply
+    requires site { IsSite shards.now }
+    requires none { org_of request.now ≡ None }
+    ensures { OutsideAnswer (site_states shards.now) None request.now result }
+{
+    if is_listing(request) {
+        listed(alloc, shards)
+    } else {
+        serve_outside(alloc, request)
+    }
+}
+
+fn listed(alloc: Global, shards: &[Shard]) -> Reply
+    requires { IsSite shards.now }
+    ensures { (Lists (site_states shards.now) result) ⊎ (result ≡ out_of_memory) }
+{
+    match list(alloc, shards) {
+        Ok(reply) => reply,
+        Err(NoMemory) => out_of_memory(),
+    }
+}
+
+fn serve_own<L: Ledger>(
+    alloc: Global,
+    shards: &mut [Shard],
+    org: &Text,
+    request: &Request,
+    steps: &mut Steps<L>,
+) -> Reply
+    requires site { IsSite shards.old }
+    requires of { org_of request.now ≡ Some org.now }
+    ensures reply { result ≡ answer (mark_of result) request.now (site_states shards.old org.now) }
+    ensures lawful { IsLawful (mark_of result) request.now (site_states shards.old org.now) }
+    ensures states { (name : List ℕ) →
+        site_states shards.new name ≡ state_then name request.now result (site_states shards.old name) }
+{
+    let number = shard_of(org.as_bytes(), shards.len());
+    let shard = &mut shards[number];
+    shard.serve(alloc, org, request, steps)
+}
