@@ -1,10 +1,9 @@
 //! The nine segments of a manifest.
-ghost use Rattle.std.specs.Prelude.{◌≡◌, [], IfOk, Ok, OnOk, map, option_map};
+ghost use Rattle.std.specs.Prelude.{◌≡◌, [], IfOk, Ok, map, option_map};
 ghost use Rattle.doc_tree.specs.Doc.{docs_of, pairs_of};
 ghost use Rattle.doc_tree.specs.Tree.{doc_of};
 ghost use Rattle.cookbook_meta.specs.Entries.{with_entries};
 ghost use Rattle.cookbook_meta.specs.Faults.{then_do};
-ghost use Rattle.cookbook_meta.specs.Gathered.{HasPathsOf};
 ghost use Rattle.cookbook_meta.specs.Outcomes.{Finds, Gives};
 ghost use Rattle.cookbook_meta.specs.Segments as spec;
 
@@ -56,9 +55,7 @@ fn add_segment(
     found: Option<&Tree>,
     files: &mut Gathered,
 ) -> Result<(), Flaw>
-    requires { HasPathsOf files.old.entries.items files.old.paths }
-    ensures entries { Finds (then_do result (λ done. Ok files.new.entries.items)) (spec.with_segment segment.now (option_map (λ t. doc_of t.now) found.entry) files.old.entries.items) }
-    ensures paths { OnOk result (HasPathsOf files.new.entries.items files.new.paths) }
+    ensures { Finds (then_do result (λ done. Ok files.new)) (spec.with_segment segment.now (option_map (λ t. doc_of t.now) found.entry) files.old) }
 {
     match found {
         None => Ok(()),
@@ -67,9 +64,7 @@ fn add_segment(
 }
 
 fn add_list(alloc: Global, segment: &str, tree: &Tree, files: &mut Gathered) -> Result<(), Flaw>
-    requires { HasPathsOf files.old.entries.items files.old.paths }
-    ensures entries { Finds (then_do result (λ done. Ok files.new.entries.items)) (spec.with_list segment.now (doc_of tree.now) files.old.entries.items) }
-    ensures paths { OnOk result (HasPathsOf files.new.entries.items files.new.paths) }
+    ensures { Finds (then_do result (λ done. Ok files.new)) (spec.with_list segment.now (doc_of tree.now) files.old) }
 {
     match tree {
         Tree::List(trees) => add_entries(alloc, segment, trees, files),
@@ -85,9 +80,7 @@ fn add_entries(
     trees: &Trees,
     files: &mut Gathered,
 ) -> Result<(), Flaw>
-    requires { HasPathsOf files.old.entries.items files.old.paths }
-    ensures entries { Finds (then_do result (λ done. Ok files.new.entries.items)) (with_entries segment.now (docs_of trees.now) files.old.entries.items) }
-    ensures paths { OnOk result (HasPathsOf files.new.entries.items files.new.paths) }
+    ensures { Finds (then_do result (λ done. Ok files.new)) (with_entries segment.now (docs_of trees.now) files.old) }
 {
     for tree in trees.as_slice() {
         let entry = entry_of(alloc, segment, tree)?;

@@ -1,5 +1,5 @@
 -- The shelves so far, and one more.
-use Rattle.std.proofs.Common.{◌≡◌, ◌∙◌, take_all, sym, ap, List, ℕ}
+use Rattle.std.proofs.Common.{◌∙◌, take_all, ap}
 use Rattle.shelves.proofs.CopyLemmas.{copied_more}
 use Rattle.shelves.specs.Rooms.{shelves_seen}
 use Rattle.shelves.proofs.shelves.push_copies.Goals as goal
