@@ -40,6 +40,7 @@ ROWS = [
     ("GET", O + "/nodes", "", (200, '{"db":"/organizations/acme/nodes/db","web1":"/organizations/acme/nodes/web1"}')),
     ("DELETE", O + "/nodes/db", "", (200, node("db"))),
     ("DELETE", O + "/nodes/db", "", NOT_FOUND),
+    ("GET", O + "/nodes/db", "", NOT_FOUND),
     ("GET", O + "/nodes", "", (200, '{"web1":"/organizations/acme/nodes/web1"}')),
     # two organisations, each with a node of one name
     ("POST", "/organizations", '{"name":"beta"}', uri("/organizations/beta")),

@@ -268,8 +268,3 @@ fn status_without_words(kind: ErrorKind) -> Status
         Status::NoMemory
     }
 }
-
-#[cfg(test)]
-mod explain_tests;
-#[cfg(test)]
-mod tests;

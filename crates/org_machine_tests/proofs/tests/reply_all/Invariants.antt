@@ -1,7 +1,0 @@
-use Rattle.std.specs.Prelude.{◌≡◌, codes}
-use Rattle.org_core.specs.FullStates.{full_in, MeetsFileConditions}
-use Rattle.org_machine_tests.proofs.tests.reply_all.Given as goal
-
--- the state is always that of `acme`, and its files meet their conditions
-abbrev pub invariant-loop-verb : goal.invariant-loop-verb
-invariant-loop-verb g l = (l.state.name ≡ codes "acme") × MeetsFileConditions (full_in l.state l.files)

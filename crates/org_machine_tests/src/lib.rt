@@ -1,5 +1,0 @@
-//! Tests of `org_machine`.
-#![tactic(auto)]
-
-#[cfg(test)]
-mod tests;
