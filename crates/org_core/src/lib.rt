@@ -19,8 +19,6 @@ mod replies;
 mod requests;
 mod routes;
 mod stored;
-#[cfg(test)]
-mod tests;
 
 pub use access_lists::Perm;
 pub use bodies::{absent, document_in, object_in_body, object_named};

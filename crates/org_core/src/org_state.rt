@@ -241,7 +241,7 @@ impl OrgState {
 }
 
 // Makes room for one more member in the group that the first of these moves has somebody join.
-pub(crate) fn make_place_first(groups: &mut Groups, moves: &[Move]) -> Result<(), NoMemory>
+fn make_place_first(groups: &mut Groups, moves: &[Move]) -> Result<(), NoMemory>
     ensures membership { groups.new.membership ≡ groups.old.membership }
     ensures spare { groups.new.spare ≡ groups.old.spare }
     ensures place { OnOk result (HasPlaceFirst moves.now groups.new) }
@@ -276,7 +276,7 @@ fn reserve_files(alloc: Global, files: &mut Files, org: &Text, count: usize) -> 
 }
 
 // Makes moves in order. Between two of them the conditions needn't hold.
-pub(crate) fn make_all(
+fn make_all(
     org: &Text,
     there: &mut bool,
     objects: &mut Objects,

@@ -1,0 +1,5 @@
+//! Tests of `org_core`.
+#![tactic(auto)]
+
+#[cfg(test)]
+mod tests;
