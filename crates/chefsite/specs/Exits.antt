@@ -1,10 +1,12 @@
 -- The number with which the process ends.
-use Rattle.std.specs.Prelude.{◌≡◌, ℕ, List}
+use Rattle.std.specs.Prelude.{◌≡◌, ◌↔◌, ℕ, List}
 use Rattle.std.specs.Process.{exit_status}
+use Rattle.std.specs.declared.io.ErrorKind.{ErrorKind}
+use Rattle.std.specs.declared.io.ErrorKind.TheVariants.{InvalidData}
 use Rattle.std.specs.declared.process.ExitCode.{ExitCode}
 use Rattle.outside_disk.specs.Disk.{Files}
 use Rattle.chefsite.specs.declared.statuses.Status.{Status}
-use Rattle.chefsite.specs.declared.statuses.Status.TheVariants.{Usage}
+use Rattle.chefsite.specs.declared.statuses.Status.TheVariants.{Usage, NoMemory}
 use Rattle.chefsite.specs.Statuses.{code}
 use Rattle.command_words.specs.Words.{IsCommand, command_of, file_of}
 use Rattle.chefsite.specs.Notes.{IsNoted}
@@ -26,3 +28,7 @@ pub record EndsAsRan {N : Type 0} (exit : ExitCode) (words : List (List ℕ)) (i
   pub status : Status
   pub number : Ends exit status
   pub ran : Ran status words input output notes disk before after
+
+-- where the system gave no arguments, for this kind of error: one of them isn't text, or memory was wanting for them
+abbrev pub IsToldFor : ErrorKind → Status → Type 0
+IsToldFor kind status = ((status ≡ Usage) ↔ (kind ≡ InvalidData)) × ((status ≡ NoMemory) ↔ ¬ (kind ≡ InvalidData))

@@ -11,12 +11,13 @@ mod laws;
 mod notes;
 mod statuses;
 
-ghost use Rattle.std.specs.Prelude.{◌≡◌, ◌⊎◌, ◌↔◌, ◌<◌, ℕ, List, [], Some, IfErr, IfOk, drop, map, string_bytes};
+ghost use Rattle.std.specs.Prelude.{◌≡◌, ◌<◌, ℕ, List, [], Some, IfErr, IfOk, IsErr, drop, map, string_bytes};
+ghost use Rattle.std.specs.IoError.{error_kind};
 ghost use Rattle.std.specs.Vec.Iter.{into_iter_items};
 ghost use Rattle.command_words.specs.Reading.{told};
 ghost use Rattle.command_words.specs.Words as spec;
 ghost use Rattle.chefsite.specs.Theorems.{Performed, Ran};
-ghost use Rattle.chefsite.specs.Exits.{Ends, EndsNoted, EndsAsRan};
+ghost use Rattle.chefsite.specs.Exits.{Ends, EndsNoted, EndsAsRan, IsToldFor};
 ghost use Rattle.chefsite.specs.Notes.{IsNoted};
 
 use answer::answer;
@@ -30,15 +31,15 @@ use outside_core::{Reading, Sink, Source, Writing};
 use outside_disk::{Disk, FileDisk};
 use statuses::Status;
 use std::alloc::Global;
-use std::env;
 use std::env::Args;
 use std::hash::RandomState;
 use std::io::{BufReader, ErrorKind, Read, Write};
 use std::marker::Brand;
 use std::process::ExitCode;
 use std::random::RandomSource;
-use std::rt::{Env, Stderr, Stdin, Stdout};
+use std::rt::{Stderr, Stdin, Stdout};
 use std::sync::ledger::{Blank, Ledger};
+use std::{env, io};
 
 /// Runs the command that the words name, notes why it ended, and waits for nobody. The maps of the run
 /// hash by `hasher`, which changes no reply.
@@ -132,7 +133,7 @@ pub fn run<I: Source, U: Sink, N: Sink, F: Disk, L: Ledger>(
 fn main(rt: HostRuntime) -> ExitCode {
     let mut notes: Writing<Stderr> = Writing::new(rt.stderr());
     let mut files = FileDisk::new(rt);
-    match words_given(&rt) {
+    match words_given(rt.alloc(), env::args(&rt)) {
         Ok(words) => with_streams::<_, Stdin, Stdout, Writing<Stderr>, FileDisk<HostRuntime>>(
             &rt,
             words.as_slice(),
@@ -230,15 +231,25 @@ fn end_before<N: Sink>(notes: &mut N, status: Status, file: &str) -> ExitCode
     exit_with(status)
 }
 
-// The words after the program's name. One that isn't text makes them no command.
-fn words_given<R: Env + AllocGlobal>(rt: &R) -> Result<Vec<Text>, Status>
-    ensures { IfErr result (λ status. (status ≡ Status.Usage) ⊎ (status ≡ Status.NoMemory)) }
+// The words among what the system gave as arguments. One that isn't text makes them no command.
+fn words_given(alloc: Global, arguments: io::Result<Args>) -> Result<Vec<Text>, Status>
+    ensures words { IfOk arguments (λ given. IfOk result (λ words. words.items ≡ map string_bytes (drop 1 (into_iter_items given)))) }
+    ensures memory { IfOk arguments (λ given. IfErr result (λ status. status ≡ Status.NoMemory)) }
+    ensures fault { IfErr arguments (λ error. IfErr result (λ status. IsToldFor (error_kind error) status)) }
+    ensures refused { IfErr arguments (λ error. IsErr result) }
 {
-    let arguments = match env::args(rt) {
-        Ok(arguments) => arguments,
-        Err(error) => return Err(status_without_words(error.kind())),
-    };
-    match words_of(rt.alloc(), arguments) {
+    match arguments {
+        Ok(arguments) => words_or_none(alloc, arguments),
+        Err(error) => Err(status_without_words(error.kind())),
+    }
+}
+
+// The words of these arguments, but for want of memory.
+fn words_or_none(alloc: Global, arguments: Args) -> Result<Vec<Text>, Status>
+    ensures words { IfOk result (λ words. words.items ≡ map string_bytes (drop 1 (into_iter_items arguments))) }
+    ensures memory { IfErr result (λ status. status ≡ Status.NoMemory) }
+{
+    match words_of(alloc, arguments) {
         Ok(words) => Ok(words),
         Err(NoMemory) => Err(Status::NoMemory),
     }
@@ -259,8 +270,7 @@ fn words_of(alloc: Global, arguments: Args) -> Result<Vec<Text>, NoMemory>
 
 // An argument that isn't text makes the words no command. Else memory was wanting for them.
 fn status_without_words(kind: ErrorKind) -> Status
-    ensures usage { (result ≡ Status.Usage) ↔ (kind ≡ ErrorKind.InvalidData) }
-    ensures memory { (result ≡ Status.NoMemory) ↔ ¬ (kind ≡ ErrorKind.InvalidData) }
+    ensures { IsToldFor kind result }
 {
     if kind == ErrorKind::InvalidData {
         Status::Usage

@@ -1,5 +1,5 @@
 -- A page is a part of what was found.
-use Rattle.std.proofs.Common.{◌≡◌, ◌≤◌, ◌+◌, ℕ, List, length, drop, take, min, arith}
+use Rattle.std.proofs.Common.{◌≤◌, ◌+◌, ℕ, List, length, drop, take, arith}
 use Rattle.std.proofs.lemmas.List.{length-drop, length-take}
 use Rattle.object_finder.specs.Indexes.{index_of}
 use Rattle.search_routes.specs.Finding.{found}
