@@ -10,11 +10,10 @@ ghost use Rattle.cookbook_routes.specs.CookbookRules as rules;
 ghost use Rattle.cookbook_routes.specs.Files as spec;
 
 use crate::operations::CookbookOperation;
+use crate::prepared::{told, with_moves};
 use crate::sandbox_routes::is_committed;
 use doc_tree::{Bytes, Fields, NoMemory, Text, Tree};
-use org_core::{
-    Body, Context, FileMove, Move, Moves, Prepared, Refusal, Stop, given, one_move, shown,
-};
+use org_core::{Body, Context, FileMove, Move, Moves, Prepared, Refusal, Stop, given, one_move};
 use route_table::Verb;
 use sandboxes::{Checksum, Hashed, read_checksum};
 use std::alloc::Global;
@@ -94,9 +93,11 @@ pub(crate) fn digest_refusal(asked: &Checksum, file: &Hashed) -> Option<Refusal>
 pub(crate) fn upload(alloc: Global, asked: Checksum, file: Hashed) -> Result<Prepared, NoMemory>
     ensures { IfOk result (λ p. Finds (Ok p) (spec.file_uploaded asked file).answer) }
 {
-    let reply = shown(alloc, &Tree::Dict(Fields::new(alloc)))?;
-    let moves = one_move(alloc, Move::OnFiles(FileMove::Upload(asked, file)))?;
-    Ok(Prepared { reply, moves })
+    let reply = told(alloc, Tree::Dict(Fields::new(alloc)))?;
+    with_moves(
+        reply,
+        one_move(alloc, Move::OnFiles(FileMove::Upload(asked, file))),
+    )
 }
 
 /// A file is shown.

@@ -6,6 +6,7 @@ mod file_routes;
 mod laws;
 mod listing_routes;
 mod operations;
+mod prepared;
 mod sandbox_routes;
 mod solving_routes;
 mod trees;

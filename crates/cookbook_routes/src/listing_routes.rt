@@ -1,6 +1,6 @@
 //! The listings of cookbooks and their versions.
 
-ghost use Rattle.std.specs.Prelude.{◌≡◌, ◌++◌, IfOk, OnOk, Ok, map, option_map};
+ghost use Rattle.std.specs.Prelude.{◌≡◌, ◌++◌, IfOk, OnOk, Ok, codes, map, option_map};
 ghost use Rattle.std.specs.FinMap as finite;
 ghost use Rattle.doc_tree.specs.Part.{with_pair};
 ghost use Rattle.doc_tree.specs.Tree.{doc_of};
@@ -17,12 +17,13 @@ ghost use Rattle.cookbook_routes.specs.CookbookRules as rules;
 ghost use Rattle.cookbook_routes.specs.Listings as spec;
 
 use crate::operations::{CookbookOperation, Count};
-use crate::trees::put;
+use crate::prepared::told;
+use crate::trees::two;
 use cookbook_editions::Edition;
 use doc_tree::{Fields, NoMemory, Text, Tree, Trees};
 use org_core::{
     Context, Moves, Parameter, Prepared, Refusal, Stop, asked_for, joined, number_in, org_uri,
-    shown, shown_key,
+    shown_key,
 };
 use org_shelves::Cookbooks;
 use route_table::Verb;
@@ -92,7 +93,7 @@ pub(crate) fn list_cookbooks(
 {
     let tree = listing_tree(alloc, context.org, count, context.state.cookbooks())?;
     Ok(Prepared {
-        reply: shown(alloc, &tree)?,
+        reply: told(alloc, tree)?,
         moves: Moves::new(alloc),
     })
 }
@@ -147,16 +148,9 @@ fn cookbook_tree(
 ) -> Result<Tree, NoMemory>
     ensures { IfOk result (λ tree. doc_of tree ≡ spec.cookbook_doc org.now count name.now (map_of version_cmp shelf.now)) }
 {
+    let url = cookbook_path(alloc, org, name)?;
     let versions = newest_tree(alloc, org, count, name, shelf.entries())?;
-    let mut fields = Fields::with_capacity(alloc, 2)?;
-    put(
-        alloc,
-        &mut fields,
-        "url",
-        Tree::Words(cookbook_path(alloc, org, name)?),
-    )?;
-    put(alloc, &mut fields, "versions", versions)?;
-    Ok(Tree::Dict(fields))
+    two(alloc, "url", Tree::Words(url), "versions", versions)
 }
 
 // So many of the versions of these entries, greatest first.
@@ -190,15 +184,23 @@ fn version_tree(alloc: Global, org: &Text, name: &Text, version: Version) -> Res
     ensures { IfOk result (λ tree. doc_of tree ≡ spec.version_doc org.now name.now version) }
 {
     let number = Text::of(format!(in alloc; "{version}")?);
-    let url = joined(
+    let url = version_path(alloc, org, name, &number)?;
+    two(
         alloc,
-        cookbook_path(alloc, org, name)?.as_str(),
-        joined(alloc, "/", number.as_str())?.as_str(),
-    )?;
-    let mut fields = Fields::with_capacity(alloc, 2)?;
-    put(alloc, &mut fields, "url", Tree::Words(url))?;
-    put(alloc, &mut fields, "version", Tree::Words(number))?;
-    Ok(Tree::Dict(fields))
+        "url",
+        Tree::Words(url),
+        "version",
+        Tree::Words(number),
+    )
+}
+
+// The path of the version of a cookbook that this number spells.
+fn version_path(alloc: Global, org: &Text, name: &Text, number: &Text) -> Result<Text, NoMemory>
+    ensures { IfOk result (λ path. path ≡ spec.cookbook_path org.now name.now ++ (codes "/" ++ number.now)) }
+{
+    let front = cookbook_path(alloc, org, name)?;
+    let rest = joined(alloc, "/", number.as_str())?;
+    joined(alloc, front.as_str(), rest.as_str())
 }
 
 fn cookbook_path(alloc: Global, org: &Text, name: &Text) -> Result<Text, NoMemory>

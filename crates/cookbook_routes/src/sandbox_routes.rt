@@ -1,6 +1,6 @@
 //! The routes of sandboxes.
 
-ghost use Rattle.std.specs.Prelude.{◌≡◌, None, Ok, IfOk, OnOk, not, codes, is_none, option_and_then, option_map, map};
+ghost use Rattle.std.specs.Prelude.{◌≡◌, [], None, Ok, IfOk, OnOk, not, codes, is_none, option_and_then, option_map, map};
 ghost use Rattle.std.specs.FinMap as finite;
 ghost use Rattle.std.specs.Map.{keys_of};
 ghost use Rattle.doc_tree.specs.Doc as docs;
@@ -19,11 +19,12 @@ ghost use Rattle.cookbook_routes.specs.CookbookRules as rules;
 ghost use Rattle.cookbook_routes.specs.Sandboxes as spec;
 
 use crate::operations::CookbookOperation;
-use crate::trees::put;
+use crate::prepared::{told, with_moves};
+use crate::trees::{put, two};
 use doc_tree::{Field, Fields, NoMemory, Text, Tree, Trees};
 use org_core::{
     Body, Context, FileMove, Move, Prepared, Refusal, Stop, document_in, joined, made, one_move,
-    org_uri, shown,
+    org_uri,
 };
 use route_table::Verb;
 use sandboxes::{Checksum, Files, SandFault, Sums, read_checksum, sandbox_id};
@@ -219,9 +220,12 @@ fn begin_as(
     ensures { IfOk result (λ p. Finds (Ok p) (spec.begun_as (seen context.entry) id sums).answer) }
 {
     let tree = begun_tree(alloc, context, &id, &sums)?;
-    let reply = made(alloc, &tree)?;
-    let moves = one_move(alloc, Move::OnFiles(FileMove::Begin(sums)))?;
-    Ok(Prepared { reply, moves })
+    let reply = made(alloc, &tree);
+    drop(tree);
+    with_moves(
+        reply?,
+        one_move(alloc, Move::OnFiles(FileMove::Begin(sums))),
+    )
 }
 
 fn begun_tree(
@@ -232,13 +236,26 @@ fn begun_tree(
 ) -> Result<Tree, NoMemory>
     ensures { IfOk result (λ tree. doc_of tree ≡ spec.begun_doc (seen context.entry).org (seen context.entry).files id.now sums.now) }
 {
-    let uploads = uploads_tree(alloc, context.org, context.files, sums.as_slice())?;
-    let uri = sandbox_path(alloc, context.org, id)?;
     let mut fields = Fields::with_capacity(alloc, 3)?;
-    put(alloc, &mut fields, "checksums", uploads)?;
-    put(alloc, &mut fields, "sandbox_id", words(alloc, id)?)?;
-    put(alloc, &mut fields, "uri", Tree::Words(uri))?;
-    Ok(Tree::Dict(fields))
+    put_begun(alloc, context, id, sums, &mut fields).and(Ok(Tree::Dict(fields)))
+}
+
+// Puts what is told of a new sandbox.
+fn put_begun(
+    alloc: Global,
+    context: Context<'_>,
+    id: &Checksum,
+    sums: &Sums,
+    fields: &mut Fields,
+) -> Result<(), NoMemory>
+    requires { fields.old ≡ [] }
+    ensures { OnOk result (docs.dict (docs.pairs_of fields.new) ≡ spec.begun_doc (seen context.entry).org (seen context.entry).files id.now sums.now) }
+{
+    let uploads = uploads_tree(alloc, context.org, context.files, sums.as_slice())?;
+    put(alloc, fields, "checksums", uploads)?;
+    put(alloc, fields, "sandbox_id", words(alloc, id)?)?;
+    let uri = sandbox_path(alloc, context.org, id)?;
+    put(alloc, fields, "uri", Tree::Words(uri))
 }
 
 // What is still to be uploaded, by checksum.
@@ -264,10 +281,13 @@ fn upload_tree(alloc: Global, org: &Text, files: &Files, sum: &Checksum) -> Resu
 {
     let needs_upload = !is_committed(org, files, sum);
     let url = file_path(alloc, org, sum)?;
-    let mut fields = Fields::with_capacity(alloc, 2)?;
-    put(alloc, &mut fields, "needs_upload", Tree::Bool(needs_upload))?;
-    put(alloc, &mut fields, "url", Tree::Words(url))?;
-    Ok(Tree::Dict(fields))
+    two(
+        alloc,
+        "needs_upload",
+        Tree::Bool(needs_upload),
+        "url",
+        Tree::Words(url),
+    )
 }
 
 /// Whether an organisation has a committed file of this checksum.
@@ -289,10 +309,8 @@ pub(crate) fn commit(
     ensures { IfOk result (λ p. Finds (Ok p) (spec.sandbox_committed (seen context.entry) id).answer) }
 {
     let sums = listed_tree(alloc, context, &id)?;
-    let tree = committed_tree(alloc, &id, sums)?;
-    let reply = shown(alloc, &tree)?;
-    let moves = one_move(alloc, Move::OnFiles(FileMove::Commit(id)))?;
-    Ok(Prepared { reply, moves })
+    let reply = told(alloc, committed_tree(alloc, &id, sums)?)?;
+    with_moves(reply, one_move(alloc, Move::OnFiles(FileMove::Commit(id))))
 }
 
 // The checksums that a sandbox lists, of which one that isn't there lists none.
@@ -318,12 +336,24 @@ fn sums_tree(alloc: Global, sums: &[Checksum]) -> Result<Tree, NoMemory>
 fn committed_tree(alloc: Global, id: &Checksum, sums: Tree) -> Result<Tree, NoMemory>
     ensures { IfOk result (λ tree. doc_of tree ≡ spec.committed_doc id.now (doc_of sums)) }
 {
-    let mut fields = Fields::with_capacity(alloc, 4)?;
-    put(alloc, &mut fields, "checksums", sums)?;
-    put(alloc, &mut fields, "guid", words(alloc, id)?)?;
-    put(alloc, &mut fields, "is_completed", Tree::Bool(true))?;
-    put(alloc, &mut fields, "name", words(alloc, id)?)?;
-    Ok(Tree::Dict(fields))
+    let mut fields = Fields::new(alloc);
+    put_committed(alloc, id, sums, &mut fields).and(Ok(Tree::Dict(fields)))
+}
+
+// Puts what is told of a sandbox that was committed.
+fn put_committed(
+    alloc: Global,
+    id: &Checksum,
+    sums: Tree,
+    fields: &mut Fields,
+) -> Result<(), NoMemory>
+    requires { fields.old ≡ [] }
+    ensures { OnOk result (docs.dict (docs.pairs_of fields.new) ≡ spec.committed_doc id.now (doc_of sums)) }
+{
+    put(alloc, fields, "checksums", sums)?;
+    put(alloc, fields, "guid", words(alloc, id)?)?;
+    put(alloc, fields, "is_completed", Tree::Bool(true))?;
+    put(alloc, fields, "name", words(alloc, id)?)
 }
 
 fn words(alloc: Global, sum: &Checksum) -> Result<Tree, NoMemory>

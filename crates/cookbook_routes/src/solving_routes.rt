@@ -17,6 +17,7 @@ ghost use Rattle.cookbook_routes.specs.CookbookRules as rules;
 ghost use Rattle.cookbook_routes.specs.Solving as spec;
 
 use crate::operations::CookbookOperation;
+use crate::prepared::told;
 use crate::universe_routes::look_at_each;
 use crate::version_routes::{shown_found, stored_at};
 use access_lists::Perm;
@@ -25,7 +26,7 @@ use cookbook_meta::{MetaFault, read_needs};
 use dep_solver::{EnvRules, NoSolution, Pin, Pins, Roots, Solved, Universe, best_pins};
 use doc_tree::{Fields, Kind, NoMemory, Steps, Text, Tree, is_name};
 use org_core::{
-    Body, Context, Moves, Need, Prepared, Refusal, Stop, absent, document_in, listed_need, shown,
+    Body, Context, Moves, Need, Prepared, Refusal, Stop, absent, document_in, listed_need,
 };
 use route_table::Verb;
 use run_list::Items;
@@ -164,7 +165,7 @@ fn show_chosen<L: Ledger>(
     look_at_each(pins, steps);
     let tree = chosen_tree(alloc, context, pins)?;
     Ok(Prepared {
-        reply: shown(alloc, &tree)?,
+        reply: told(alloc, tree)?,
         moves: Moves::new(alloc),
     })
 }

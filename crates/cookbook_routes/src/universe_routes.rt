@@ -1,6 +1,7 @@
 //! The route of the universe.
 
-ghost use Rattle.std.specs.Prelude.{◌≡◌, ◌+◌, IfOk, OnOk, length};
+ghost use Rattle.std.specs.Prelude.{◌≡◌, ◌+◌, [], IfOk, OnOk, length};
+ghost use Rattle.doc_tree.specs.Doc.{dict, pairs_of};
 ghost use Rattle.doc_tree.specs.Part.{with_pair};
 ghost use Rattle.doc_tree.specs.Tree.{doc_of};
 ghost use Rattle.shelves.specs.SortedMap.{map_of};
@@ -15,10 +16,11 @@ ghost use Rattle.cookbook_routes.specs.CookbookRules as rules;
 ghost use Rattle.cookbook_routes.specs.Universes as spec;
 
 use crate::operations::CookbookOperation;
+use crate::prepared::told;
 use crate::trees::put;
 use cookbook_editions::Edition;
 use doc_tree::{Fields, NoMemory, Steps, Text, Tree};
-use org_core::{Context, Moves, Prepared, Refusal, Stop, org_uri, shown};
+use org_core::{Context, Moves, Prepared, Refusal, Stop, org_uri};
 use org_shelves::Cookbooks;
 use route_table::Verb;
 use shelves::SortedMap;
@@ -51,7 +53,7 @@ pub(crate) fn show_universe<L: Ledger>(
     look_at_all(cookbooks, steps);
     let tree = universe_tree(alloc, context.org, cookbooks)?;
     Ok(Prepared {
-        reply: shown(alloc, &tree)?,
+        reply: told(alloc, tree)?,
         moves: Moves::new(alloc),
     })
 }
@@ -115,16 +117,23 @@ fn put_release(
 fn release_tree(alloc: Global, org: &Text, edition: &Edition) -> Result<Tree, NoMemory>
     ensures { IfOk result (λ tree. doc_of tree ≡ spec.release_doc org.now edition.now) }
 {
-    let place = Tree::Words(org_uri(alloc, org)?);
-    let kind = Tree::Words(Text::from_str(alloc, "chef_server")?);
     let mut fields = Fields::with_capacity(alloc, 3)?;
-    put(
-        alloc,
-        &mut fields,
-        "dependencies",
-        edition.dependencies(alloc)?,
-    )?;
-    put(alloc, &mut fields, "location_path", place)?;
-    put(alloc, &mut fields, "location_type", kind)?;
-    Ok(Tree::Dict(fields))
+    put_parts(alloc, org, edition, &mut fields).and(Ok(Tree::Dict(fields)))
+}
+
+// Puts what a version needs, and where it is had.
+fn put_parts(
+    alloc: Global,
+    org: &Text,
+    edition: &Edition,
+    fields: &mut Fields,
+) -> Result<(), NoMemory>
+    requires { fields.old ≡ [] }
+    ensures { OnOk result (dict (pairs_of fields.new) ≡ spec.release_doc org.now edition.now) }
+{
+    put(alloc, fields, "dependencies", edition.dependencies(alloc)?)?;
+    let place = org_uri(alloc, org)?;
+    put(alloc, fields, "location_path", Tree::Words(place))?;
+    let kind = Text::from_str(alloc, "chef_server")?;
+    put(alloc, fields, "location_type", Tree::Words(kind))
 }

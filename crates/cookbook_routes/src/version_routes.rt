@@ -1,11 +1,13 @@
 //! The routes of cookbook versions.
 
-ghost use Rattle.std.specs.Prelude.{◌≡◌, ◌+◌, ◌∷◌, None, Some, Ok, IfOk, OnOk, codes, is_some, not, cond, option_map, option_copied, filter};
+ghost use Rattle.std.specs.Prelude.{◌≡◌, ◌+◌, ◌∷◌, [], None, Some, Ok, IfOk, OnOk, codes, is_some, not, cond, option_map, option_copied, filter};
 ghost use Rattle.doc_tree.specs.Name.{is_name as spec_is_name};
 ghost use Rattle.doc_tree.specs.Tree.{doc_of};
 ghost use Rattle.shelves.specs.Shelves.{has_shelf};
 ghost use Rattle.org_core.specs.Bodies as bodies;
+ghost use Rattle.access_lists.specs.declared.starting.Container.TheVariants as container;
 ghost use Rattle.org_core.specs.Contexts.{seen};
+ghost use Rattle.org_core.specs.Creating.{created_list as spec_created_list};
 ghost use Rattle.org_core.specs.Outcomes.{Finds, Looked};
 ghost use Rattle.org_core.specs.Refusals.{Tells};
 ghost use Rattle.org_core.specs.Replies.{with_body};
@@ -15,11 +17,13 @@ ghost use Rattle.cookbook_routes.specs.Sandboxes.{missing_told};
 ghost use Rattle.cookbook_routes.specs.Versions as spec;
 
 use crate::operations::{CookbookOperation, Wanted};
+use crate::prepared::{or_stop, told, with_moves};
 use crate::sandbox_routes::is_committed;
 use access_lists::{Container, Perm};
 use cookbook_editions::{Edition, shown as shown_manifest};
 use cookbook_meta::MetaFault;
 use doc_tree::{Kind, Name, NoMemory, Steps, Text, Tree, is_name};
+use object_store::Key;
 use org_core::{
     Body, Context, Move, Moves, Need, Parameter, Prepared, Refusal, Reply, Stop, absent, asked_for,
     created_list, document_in, joined, key_of, listed_need, made, one_move, org_uri, shown,
@@ -281,11 +285,18 @@ pub(crate) fn show<L: Ledger>(
     ensures looked { Looked result (spec.version_shown (seen context.entry) name.now wanted).looks steps.old steps.new }
 {
     steps.tick();
-    let tree = shown_found(alloc, context.org, wanted_of(context, name, wanted))?;
+    let reply = found_told(alloc, context.org, wanted_of(context, name, wanted))?;
     Ok(Prepared {
-        reply: shown(alloc, &tree)?,
+        reply,
         moves: Moves::new(alloc),
     })
+}
+
+// 200 with the manifest that was found.
+fn found_told(alloc: Global, org: &Text, found: Option<&Edition>) -> Result<Reply, NoMemory>
+    ensures { IfOk result (λ reply. reply ≡ with_body 200 (spec.shown_found org.now (option_copied found.entry))) }
+{
+    told(alloc, shown_found(alloc, org, found)?)
 }
 
 /// A manifest as a reply shows it, with the URLs of its files, where one was found, and null where none was. The
@@ -325,9 +336,35 @@ pub(crate) fn put<L: Ledger>(
         steps.tick();
     }
     let stored = stored_over(alloc, found, edition)?;
-    let reply = told_of_put(alloc, is_new, &shown_edition(alloc, context.org, &stored)?)?;
-    let moves = put_moves(alloc, context, name, version, stored)?;
-    Ok(Prepared { reply, moves })
+    or_stop(put_stored(alloc, context, name, version, is_new, stored))
+}
+
+// What is stored is told and put.
+fn put_stored(
+    alloc: Global,
+    context: Context<'_>,
+    name: Text,
+    version: Version,
+    is_new: bool,
+    stored: Edition,
+) -> Result<Prepared, NoMemory>
+    ensures reply { IfOk result (λ p. p.reply ≡ with_body (cond is_new 201 200) (spec.shown_found (seen context.entry).org (Some stored))) }
+    ensures moves { IfOk result (λ p. p.moves ≡ spec.put_moves (seen context.entry) name version stored) }
+{
+    match stored_told(alloc, context.org, is_new, &stored) {
+        Ok(reply) => with_moves(reply, put_moves(alloc, context, name, version, stored)),
+        Err(fault) => {
+            drop(stored);
+            Err(fault)
+        }
+    }
+}
+
+// The reply to a PUT, with what is stored.
+fn stored_told(alloc: Global, org: &Text, is_new: bool, stored: &Edition) -> Result<Reply, NoMemory>
+    ensures { IfOk result (λ reply. reply ≡ with_body (cond is_new 201 200) (spec.shown_found org.now (Some stored.now))) }
+{
+    told_of_put(alloc, is_new, &shown_edition(alloc, org, stored)?)
 }
 
 // What was frozen stays frozen.
@@ -365,16 +402,37 @@ fn put_moves(
     ensures { IfOk result (λ moves. moves ≡ spec.put_moves (seen context.entry) name version edition) }
 {
     let is_first = !has_cookbook(context, &name);
-    let key = key_of(alloc, Kind::Cookbook, name.as_str())?;
-    let mut moves = one_move(
-        alloc,
-        Move::OnShelves(ShelfMove::PutVersion(name, version, edition)),
-    )?;
+    match key_of(alloc, Kind::Cookbook, name.as_str()) {
+        Ok(key) => {
+            let put = Move::OnShelves(ShelfMove::PutVersion(name, version, edition));
+            let mut moves = Moves::new(alloc);
+            add_put(alloc, context, is_first, key, put, &mut moves).and(Ok(moves))
+        }
+        Err(fault) => {
+            drop(edition);
+            Err(fault)
+        }
+    }
+}
+
+// Adds the move that puts a version, and where it is the first the access list of its cookbook, which has this key.
+fn add_put(
+    alloc: Global,
+    context: Context<'_>,
+    is_first: bool,
+    key: Key,
+    put: Move,
+    moves: &mut Moves,
+) -> Result<(), NoMemory>
+    requires { moves.old ≡ [] }
+    ensures { OnOk result (moves.new ≡ put ∷ cond is_first (Move.PutList key (spec_created_list container.Cookbooks (seen context.entry)) ∷ []) []) }
+{
+    moves.push(put)?;
     if is_first {
         let list = created_list(alloc, context, Container::Cookbooks)?;
-        moves.push(Move::PutList(key, list))?;
+        return moves.push(Move::PutList(key, list));
     }
-    Ok(moves)
+    Ok(())
 }
 
 /// A version goes.
@@ -389,10 +447,8 @@ pub(crate) fn remove<L: Ledger>(
     ensures looked { Looked result (spec.version_removed (seen context.entry) name version).looks steps.old steps.new }
 {
     steps.tick();
-    let tree = shown_found(alloc, context.org, stored_at(context, &name, version))?;
-    let reply = shown(alloc, &tree)?;
-    let moves = removal(alloc, context, name, version)?;
-    Ok(Prepared { reply, moves })
+    let reply = found_told(alloc, context.org, stored_at(context, &name, version))?;
+    or_stop(with_moves(reply, removal(alloc, context, name, version)))
 }
 
 fn removal(

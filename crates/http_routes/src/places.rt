@@ -233,6 +233,7 @@ pub(crate) fn place_with(
     ensures { IfOk result (λ known. known ≡ spec.place_with place verb body.now) }
 {
     if is_creation(&place, verb) {
+        drop(place);
         creation(alloc, organisation_in(body))
     } else {
         Ok(place)

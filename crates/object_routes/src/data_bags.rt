@@ -166,8 +166,8 @@ fn post_item(alloc: Global, bag: &Text, body: &Body) -> Result<DataOperation, St
     if !is_name(bag.as_str()) {
         return Err(Stop::Refused(absent(body)));
     }
-    let item = object_in_body(alloc, Kind::Item, None, body)?;
-    Ok(DataOperation::CreateItem(bag.copy(alloc)?, item))
+    let bag = bag.copy(alloc)?;
+    Ok(DataOperation::CreateItem(bag, object_in_body(alloc, Kind::Item, None, body)?))
 }
 
 /// What is asked of an item.
@@ -194,8 +194,9 @@ fn put_item(alloc: Global, bag: &Text, id: &Text, body: &Body) -> Result<DataOpe
     if !(is_name(bag.as_str()) && is_name(id.as_str())) {
         return Err(Stop::Refused(absent(body)));
     }
-    let item = object_named(alloc, Kind::Item, id, body)?;
-    Ok(DataOperation::ReplaceItem(bag.copy(alloc)?, id.copy(alloc)?, item))
+    let bag = bag.copy(alloc)?;
+    let name = id.copy(alloc)?;
+    Ok(DataOperation::ReplaceItem(bag, name, object_named(alloc, Kind::Item, id, body)?))
 }
 
 /// Whether there is no such bag, or it has no item of this id.

@@ -169,8 +169,8 @@ fn put_one(alloc: Global, kind: Kind, name: &Text, body: &Body) -> Result<Object
     if !is_name(name.as_str()) {
         return Err(Stop::Refused(absent(body)));
     }
-    let object = object_named(alloc, kind, name, body)?;
-    Ok(ObjectsOperation::Replace(name.copy(alloc)?, object))
+    let own = name.copy(alloc)?;
+    Ok(ObjectsOperation::Replace(own, object_named(alloc, kind, name, body)?))
 }
 
 /// Whether no object of this kind has the name, which may have no name's form.

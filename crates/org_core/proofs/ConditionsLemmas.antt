@@ -14,8 +14,6 @@ use Rattle.access_lists.specs.Strangers as membership
 use Rattle.doc_tree.specs.Doc.{Doc}
 use Rattle.doc_tree.specs.Name.{is_name}
 use Rattle.doc_tree.specs.declared.kind.Kind.TheVariants as kinds
-use Rattle.shelves.specs.Shelves.{text_cmp}
-use Rattle.version_rules.specs.Order.{version_cmp}
 use Rattle.object_store.specs.Items.{item_name, ids_in}
 use Rattle.object_store.specs.Objects.{Objects, key, key_cmp}
 use Rattle.object_store.specs.declared.key.Key.{Key}

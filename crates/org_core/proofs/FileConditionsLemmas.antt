@@ -1,7 +1,5 @@
 -- Moves that keep the conditions of an organisation's files.
-use Rattle.std.proofs.Common.{◌≡◌, ℕ, ◌+◌, Bool, true, false, cond, not, ◌&&◌, ◌||◌, List, [], ◌∷◌, ◌++◌, length, filter, Option, Some, None, is_some, option_map, Equal, unwrap_or, refl, sym, ap, subst, ◌∙◌}
-use Rattle.std.proofs.lemmas.Option.{same_Some}
-use Rattle.std.specs.Cmp.{tied_itself}
+use Rattle.std.proofs.Common.{◌≡◌, ℕ, Bool, true, false, cond, ◌||◌, List, [], ◌∷◌, length, filter, Option, Some, None, is_some, option_map, refl, ap, ◌∙◌}
 use Rattle.std.specs.Cmp.Lexicographic.{nat_list_cmp_total}
 use Rattle.std.specs.FinMap as finite
 use Rattle.std.specs.Ordering.{eq_by_cmp}
@@ -11,9 +9,9 @@ use Rattle.sandboxes.specs.Sandboxes.{Holding, begun, committed, has_file, is_at
 use Rattle.sandboxes.specs.Sums.{lists}
 use Rattle.sandboxes.specs.declared.stored.Stored.{Stored}
 use Rattle.shelves.proofs.ShelfLaws.{tied_name}
-use Rattle.org_core.specs.FileMoves.{after_all, after_file_move, files_after, files_after_move, files_within, is_complete, takes_shelf_room, shelved_by}
+use Rattle.org_core.specs.FileMoves.{after_all, after_file_move, files_after_move, files_within, is_complete, takes_shelf_room, shelved_by}
 use Rattle.org_core.specs.FullStates.{FullState, MeetsFileConditions}
-use Rattle.org_core.specs.Moves.{after_move, after_moves, opens, outside, within}
+use Rattle.org_core.specs.Moves.{after_move, opens, outside, within}
 use Rattle.org_core.specs.States.{Organisation, State, shelved_of}
 use Rattle.org_shelves.proofs.StayingLemmas.{nothing_there, stay}
 use Rattle.org_shelves.specs.Files.{AreThere, is_committed, is_committed_file}

@@ -1,6 +1,6 @@
 //! What is created in a container, and the access list that it gets.
 
-ghost use Rattle.std.specs.Prelude.{◌≡◌, ◌++◌, Ok, IfOk, OnOk};
+ghost use Rattle.std.specs.Prelude.{◌≡◌, ◌++◌, ◌∷◌, [], Ok, IfOk, OnOk};
 ghost use Rattle.org_core.specs.Contexts.{seen};
 ghost use Rattle.org_core.specs.Creating as spec;
 ghost use Rattle.org_core.specs.Outcomes.{Finds};
@@ -29,7 +29,11 @@ pub fn created_list(
 {
     let list = container_list(alloc, context.state, container)?;
     match context.caller {
-        Some(caller) => list.with_actor(alloc, caller),
+        Some(caller) => {
+            let longer = list.with_actor(alloc, caller);
+            drop(list);
+            longer
+        }
         None => Ok(list),
     }
 }
@@ -56,10 +60,40 @@ pub fn add_with_list(
 ) -> Result<(), NoMemory>
     ensures { OnOk result (moves.new ≡ moves.old ++ spec.with_list container (seen context.entry) key.kind key.name object) }
 {
-    let list_key = key.copy(alloc)?;
+    match list_comes(alloc, context, container, &key) {
+        Ok(list) => add_both(moves, Move::Put(key, object), list),
+        Err(fault) => {
+            drop(object);
+            Err(fault)
+        }
+    }
+}
+
+/// The move by which the list comes that an object of this key has when it is created.
+fn list_comes(
+    alloc: Global,
+    context: Context<'_>,
+    container: Container,
+    key: &Key,
+) -> Result<Move, NoMemory>
+    ensures { IfOk result (λ one. one ≡ Move.PutList key.now (spec.created_list container (seen context.entry))) }
+{
+    let key = key.copy(alloc)?;
     let list = created_list(alloc, context, container)?;
-    moves.push(Move::Put(key, object))?;
-    moves.push(Move::PutList(list_key, list))
+    Ok(Move::PutList(key, list))
+}
+
+/// Adds two moves, one behind the other.
+pub fn add_both(moves: &mut Moves, one: Move, other: Move) -> Result<(), NoMemory>
+    ensures { OnOk result (moves.new ≡ moves.old ++ one ∷ other ∷ []) }
+{
+    match moves.push(one) {
+        Ok(()) => moves.push(other),
+        Err(fault) => {
+            drop(other);
+            Err(fault)
+        }
+    }
 }
 
 /// Something is created by these moves: 201 with its path.

@@ -25,7 +25,7 @@ pub use bodies::{absent, document_in, object_in_body, object_named};
 pub use collections::Collection;
 pub use comers::Comer;
 pub use contexts::{Context, Lent, is_operator};
-pub use creating::{add_with_list, create_by, created_list};
+pub use creating::{add_both, add_with_list, create_by, created_list};
 pub use file_moves::{FileMove, is_complete};
 pub use group_members::GroupMembers;
 pub use groups::{Group, Prepared};

@@ -100,14 +100,22 @@ impl OrgState {
         ensures name { IfOk result (λ s. s.name ≡ self.now.name) }
         ensures state { IfOk result (λ s. state_in s ≡ state_in self.now) }
     {
-        Ok(OrgState {
-            org: self.org.copy(alloc)?,
-            there: self.there,
-            objects: self.objects.copy(alloc)?,
-            groups: self.groups.copy(alloc)?,
-            shelves: self.shelves.copy(alloc)?,
-            hasher: self.hasher,
-        })
+        let org = self.org.copy(alloc)?;
+        let objects = self.objects.copy(alloc)?;
+        match copy_both(alloc, &self.groups, &self.shelves) {
+            Ok((groups, shelves)) => Ok(OrgState {
+                org,
+                there: self.there,
+                objects,
+                groups,
+                shelves,
+                hasher: self.hasher,
+            }),
+            Err(fault) => {
+                drop(objects);
+                Err(fault)
+            }
+        }
     }
 
     /// The access list of the object of this key, if it has one. It takes no memory.
@@ -240,6 +248,25 @@ impl OrgState {
     }
 }
 
+// Equal groups and shelves with memory of their own.
+fn copy_both(
+    alloc: Global,
+    groups: &Groups,
+    shelves: &OrgShelves,
+) -> Result<(Groups, OrgShelves), NoMemory>
+    ensures groups { IfOk result (λ copies. copies.0.membership ≡ groups.now.membership) }
+    ensures shelves { IfOk result (λ copies. copies.1.shelved ≡ shelves.now.shelved) }
+{
+    let copy = groups.copy(alloc)?;
+    match shelves.copy(alloc) {
+        Ok(shelves) => Ok((copy, shelves)),
+        Err(fault) => {
+            drop(copy);
+            Err(fault)
+        }
+    }
+}
+
 // Makes room for one more member in the group that the first of these moves has somebody join.
 fn make_place_first(groups: &mut Groups, moves: &[Move]) -> Result<(), NoMemory>
     ensures membership { groups.new.membership ≡ groups.old.membership }
@@ -324,6 +351,7 @@ fn make(
         make_there(org, objects, groups, shelves, files, one);
     } else {
         *there = one.opens();
+        drop(one);
     }
 }
 

@@ -9,7 +9,7 @@ use Rattle.cookbook_meta.specs.Parts.{is_identifier}
 use Rattle.cookbook_meta.specs.declared.fault.MetaFault.{MetaFault}
 use Rattle.cookbook_meta.specs.declared.manifests.Manifest.{Manifest}
 use Rattle.cookbook_routes.specs.Versions.{or_bad_manifest}
-use Rattle.doc_tree.specs.Doc.{Doc, whole}
+use Rattle.doc_tree.specs.Doc.{Doc}
 use Rattle.doc_tree.specs.Name.{is_name}
 use Rattle.doc_tree.specs.Tree.{doc_of}
 use Rattle.policy_locks.proofs.LockLemmas.{revision_named}

@@ -1,4 +1,6 @@
 pub mod Artifacts
+pub mod Moving
+pub mod Stops
 pub mod Locks
 pub mod Policies
 pub mod Groups

@@ -10,9 +10,14 @@ ghost use Rattle.org_core.specs.Bodies as bodies;
 ghost use Rattle.org_core.specs.Contexts.{seen};
 ghost use Rattle.org_core.specs.Outcomes.{Finds, Looked};
 ghost use Rattle.org_core.specs.Refusals.{Tells};
+ghost use Rattle.org_core.specs.Replies.{with_body};
+ghost use Rattle.cookbook_editions.specs.Shown.{shown_doc};
+ghost use Rattle.cookbook_routes.specs.Versions.{files_front, shown_found as spec_shown_found};
 ghost use Rattle.policy_routes.specs.Artifacts as spec;
+ghost use Rattle.policy_routes.specs.Moving.{if_there};
 ghost use Rattle.policy_routes.specs.PolicyRules as rules;
 
+use crate::moving::{list_of_first, prepared, told};
 use crate::operations::PolicyOperation;
 use crate::trees::put;
 use access_lists::{Container, Perm};
@@ -21,8 +26,8 @@ use cookbook_meta::is_identifier;
 use cookbook_routes::{bad_manifest, missing_sums, shown_edition, shown_found};
 use doc_tree::{Fields, Kind, Name, NoMemory, Steps, Text, Tree, Trees, is_name};
 use org_core::{
-    Body, Context, Move, Moves, Need, Prepared, Refusal, Stop, absent, created_list, document_in,
-    joined, key_of, listed_need, made, one_move, org_uri, shown,
+    Body, Context, Move, Moves, Need, Prepared, Refusal, Reply, Stop, absent, document_in, joined,
+    key_of, listed_need, made, org_uri, shown,
 };
 use org_shelves::{Artifacts, ShelfMove};
 use route_table::Verb;
@@ -61,12 +66,12 @@ fn put_asked(alloc: Global, name: &Text, id: &Text, body: &Body) -> Result<Polic
 fn putting(alloc: Global, name: Name, id: &Text, body: &Body) -> Result<PolicyOperation, Stop>
     ensures { Tells result (rules.putting_artifact name id.now (spec.artifact_said name id.now (bodies.document_in body.now))) }
 {
+    let copied = id.copy(alloc)?;
     let edition = match document_in(body) {
         Ok(tree) => edition_of(alloc, tree, &name, id)?,
         Err(refusal) => return Err(Stop::Refused(refusal)),
     };
-    let id = id.copy(alloc)?;
-    Ok(PolicyOperation::PutArtifact(name.into_text(), id, edition))
+    Ok(PolicyOperation::PutArtifact(name.into_text(), copied, edition))
 }
 
 // What is stored of the artifact of this name and identifier that a tree gives.
@@ -136,10 +141,7 @@ pub(crate) fn list(alloc: Global, context: Context<'_>) -> Result<Prepared, NoMe
     ensures { IfOk result (λ p. Finds (Ok p) (spec.artifacts_listed (seen context.entry)).answer) }
 {
     let tree = listing_tree(alloc, context.org, context.state.shelves().artifacts())?;
-    Ok(Prepared {
-        reply: shown(alloc, &tree)?,
-        moves: Moves::new(alloc),
-    })
+    told(alloc, tree)
 }
 
 fn listing_tree(alloc: Global, org: &Text, artifacts: &Artifacts) -> Result<Tree, NoMemory>
@@ -147,8 +149,8 @@ fn listing_tree(alloc: Global, org: &Text, artifacts: &Artifacts) -> Result<Tree
 {
     let mut fields = Fields::new(alloc);
     for (name, shelf) in artifacts.shelves() {
-        let tree = artifacts_tree(alloc, org, name, shelf)?;
-        fields.put(name.copy(alloc)?, tree)?;
+        let copied = name.copy(alloc)?;
+        fields.put(copied, artifacts_tree(alloc, org, name, shelf)?)?;
     }
     Ok(Tree::Dict(fields))
 }
@@ -162,9 +164,9 @@ fn artifacts_tree(
 ) -> Result<Tree, NoMemory>
     ensures { IfOk result (λ tree. doc_of tree ≡ spec.artifacts_doc org.now name.now (map_of text_cmp shelf.now)) }
 {
-    let artifacts = identifiers_tree(alloc, org, name, shelf.entries())?;
     let url = artifacts_path(alloc, org, name)?;
     let mut fields = Fields::with_capacity(alloc, 2)?;
+    let artifacts = identifiers_tree(alloc, org, name, shelf.entries())?;
     put(alloc, &mut fields, "artifacts", artifacts)?;
     put(alloc, &mut fields, "url", Tree::Words(url))?;
     Ok(Tree::Dict(fields))
@@ -188,17 +190,20 @@ fn identifiers_tree(
 fn identifier_tree(alloc: Global, org: &Text, name: &Text, id: &Text) -> Result<Tree, NoMemory>
     ensures { IfOk result (λ tree. doc_of tree ≡ spec.artifact_doc org.now name.now id.now) }
 {
-    let front = joined(alloc, artifacts_path(alloc, org, name)?.as_str(), "/")?;
-    let url = joined(alloc, front.as_str(), id.as_str())?;
+    let copied = id.copy(alloc)?;
+    let url = artifact_path(alloc, org, name, id)?;
     let mut fields = Fields::with_capacity(alloc, 2)?;
-    put(
-        alloc,
-        &mut fields,
-        "identifier",
-        Tree::Words(id.copy(alloc)?),
-    )?;
+    put(alloc, &mut fields, "identifier", Tree::Words(copied))?;
     put(alloc, &mut fields, "url", Tree::Words(url))?;
     Ok(Tree::Dict(fields))
+}
+
+fn artifact_path(alloc: Global, org: &Text, name: &Text, id: &Text) -> Result<Text, NoMemory>
+    ensures { IfOk result (λ path. path ≡ spec.artifact_path org.now name.now id.now) }
+{
+    let path = artifacts_path(alloc, org, name)?;
+    let front = joined(alloc, path.as_str(), "/")?;
+    joined(alloc, front.as_str(), id.as_str())
 }
 
 fn artifacts_path(alloc: Global, org: &Text, name: &Text) -> Result<Text, NoMemory>
@@ -220,11 +225,23 @@ pub(crate) fn show<L: Ledger>(
     ensures looked { Looked result (spec.artifact_shown (seen context.entry) name.now id.now).looks steps.old steps.new }
 {
     steps.tick();
-    let tree = shown_found(alloc, context.org, artifact_at(context, name, id))?;
     Ok(Prepared {
-        reply: shown(alloc, &tree)?,
+        reply: artifact_reply(alloc, context, name, id)?,
         moves: Moves::new(alloc),
     })
+}
+
+// 200 with the manifest of an artifact.
+fn artifact_reply(
+    alloc: Global,
+    context: Context<'_>,
+    name: &Text,
+    id: &Text,
+) -> Result<Reply, NoMemory>
+    ensures { IfOk result (λ reply. reply ≡ with_body 200 (spec_shown_found (seen context.entry).org (spec.artifact_at (seen context.entry) name.now id.now))) }
+{
+    let tree = shown_found(alloc, context.org, artifact_at(context, name, id))?;
+    shown(alloc, &tree)
 }
 
 /// An artifact is put.
@@ -237,16 +254,41 @@ pub(crate) fn put_artifact(
 ) -> Result<Prepared, NoMemory>
     ensures { IfOk result (λ p. Finds (Ok p) (spec.artifact_put (seen context.entry) name id edition).answer) }
 {
-    let reply = made(alloc, &shown_edition(alloc, context.org, &edition)?)?;
-    let is_first = !has_artifacts(context, &name);
-    let key = key_of(alloc, Kind::Artifact, name.as_str())?;
-    let put = ShelfMove::PutArtifact(name, id, edition);
-    let mut moves = one_move(alloc, Move::OnShelves(put))?;
-    if is_first {
-        let list = created_list(alloc, context, Container::CookbookArtifacts)?;
-        moves.push(Move::PutList(key, list))?;
+    match put_told(alloc, context, &name, &edition) {
+        Ok((reply, list)) => {
+            let put = ShelfMove::PutArtifact(name, id, edition);
+            prepared(alloc, reply, Move::OnShelves(put), list)
+        }
+        Err(fault) => {
+            drop(edition);
+            Err(fault)
+        }
     }
-    Ok(Prepared { reply, moves })
+}
+
+// 201 with an artifact's manifest, and the list of the cookbook's artifacts where it is the first.
+fn put_told(
+    alloc: Global,
+    context: Context<'_>,
+    name: &Text,
+    edition: &Edition,
+) -> Result<(Reply, Option<Move>), NoMemory>
+    ensures reply { IfOk result (λ p. p.0 ≡ with_body 201 (shown_doc (files_front (seen context.entry).org) edition.now)) }
+    ensures list { IfOk result (λ p. if_there p.1 ≡ spec.first_artifact_list (seen context.entry) name.now) }
+{
+    let reply = made_reply(alloc, context, edition)?;
+    let is_there = has_artifacts(context, name);
+    let container = Container::CookbookArtifacts;
+    let list = list_of_first(alloc, context, is_there, Kind::Artifact, name, container)?;
+    Ok((reply, list))
+}
+
+// 201 with a manifest.
+fn made_reply(alloc: Global, context: Context<'_>, edition: &Edition) -> Result<Reply, NoMemory>
+    ensures { IfOk result (λ reply. reply ≡ with_body 201 (shown_doc (files_front (seen context.entry).org) edition.now)) }
+{
+    let tree = shown_edition(alloc, context.org, edition)?;
+    made(alloc, &tree)
 }
 
 /// An artifact goes.
@@ -261,16 +303,33 @@ pub(crate) fn remove<L: Ledger>(
     ensures looked { Looked result (spec.artifact_removed (seen context.entry) name id).looks steps.old steps.new }
 {
     steps.tick();
-    let tree = shown_found(alloc, context.org, artifact_at(context, &name, &id))?;
-    let reply = shown(alloc, &tree)?;
-    let is_last = !keeps_others(context, &name, &id);
-    let key = key_of(alloc, Kind::Artifact, name.as_str())?;
+    Ok(removed(alloc, context, name, id)?)
+}
+
+// 200 with an artifact's manifest as it was, and the moves that take it away.
+fn removed(alloc: Global, context: Context<'_>, name: Text, id: Text) -> Result<Prepared, NoMemory>
+    ensures { IfOk result (λ p. Finds (Ok p) (spec.artifact_removed (seen context.entry) name id).answer) }
+{
+    let reply = artifact_reply(alloc, context, &name, &id)?;
+    let list = list_of_last(alloc, context, &name, &id)?;
     let take = ShelfMove::TakeArtifact(name, id);
-    let mut moves = one_move(alloc, Move::OnShelves(take))?;
-    if is_last {
-        moves.push(Move::TakeList(key))?;
+    prepared(alloc, reply, Move::OnShelves(take), list)
+}
+
+// The list of the cookbook's artifacts goes with the last of them.
+fn list_of_last(
+    alloc: Global,
+    context: Context<'_>,
+    name: &Text,
+    id: &Text,
+) -> Result<Option<Move>, NoMemory>
+    ensures { IfOk result (λ o. if_there o ≡ spec.last_artifact_list (spec.artifacts_of (seen context.entry)) name.now id.now) }
+{
+    if keeps_others(context, name, id) {
+        return Ok(None);
     }
-    Ok(Prepared { reply, moves })
+    let key = key_of(alloc, Kind::Artifact, name.as_str())?;
+    Ok(Some(Move::TakeList(key)))
 }
 
 // Whether the cookbook has other artifacts once this one is gone.

@@ -1,6 +1,6 @@
 //! The routes of policy groups and what they assign.
 
-ghost use Rattle.std.specs.Prelude.{◌≡◌, [], ◌∷◌, ◌++◌, IfOk, Ok, cond, is_some, not, ◌&&◌, option_copied, option_map};
+ghost use Rattle.std.specs.Prelude.{◌≡◌, [], ◌∷◌, ◌++◌, IfOk, Ok, OnOk, cond, is_some, not, ◌&&◌, option_copied, option_map, unwrap_or};
 ghost use Rattle.doc_tree.specs.Tree.{doc_of};
 ghost use Rattle.shelves.specs.Shelves.{text_cmp};
 ghost use Rattle.shelves.specs.SortedMap.{map_of};
@@ -9,19 +9,22 @@ ghost use Rattle.org_core.specs.Outcomes.{Finds, Looked};
 ghost use Rattle.org_core.specs.Refusals.{Tells};
 ghost use Rattle.org_core.specs.Replies.{with_body};
 ghost use Rattle.org_shelves.specs.Conditions.{assigned_in};
+ghost use Rattle.std.specs.FinMap as finite;
 ghost use Rattle.policy_routes.specs.Groups as spec;
+ghost use Rattle.policy_routes.specs.Moving.{if_there};
 ghost use Rattle.policy_routes.specs.Policies as policies;
 ghost use Rattle.policy_routes.specs.PolicyRules as rules;
 
 use crate::lock_bodies::{artifact_refusal, lock_in};
+use crate::moving::{add, list_of_first, prepared, told};
 use crate::operations::PolicyOperation;
-use crate::revision_routes::{revision_at, revision_moves, revision_need};
+use crate::revision_routes::{lock_reply, revision_at, revision_moves, revision_need};
 use crate::trees::put;
 use access_lists::{Container, Perm};
 use doc_tree::{Fields, Kind, Name, NoMemory, Steps, Text, Tree, is_name, one_text};
 use org_core::{
-    Body, Context, Move, Moves, Need, Needs, Prepared, Refusal, Reply, Stop, absent, created_list,
-    joined, key_of, listed_need, made, one_move, org_uri, shown,
+    Body, Context, Move, Moves, Need, Needs, Prepared, Refusal, Reply, Stop, absent, joined,
+    key_of, listed_need, made, org_uri, shown,
 };
 use org_shelves::{Assignments, PolicyGroups, Revision, ShelfMove};
 use policy_locks::Lock;
@@ -58,8 +61,8 @@ fn assign_asked(
 {
     match Name::of(policy.copy(alloc)?) {
         Ok(policy) if is_name(group.as_str()) => {
-            let lock = lock_in(alloc, &policy, body)?;
             let group = group.copy(alloc)?;
+            let lock = lock_in(alloc, &policy, body)?;
             Ok(PolicyOperation::Assign(group, policy.into_text(), lock))
         }
         _ => Err(Stop::Refused(absent(body))),
@@ -176,10 +179,7 @@ pub(crate) fn list(alloc: Global, context: Context<'_>) -> Result<Prepared, NoMe
     ensures { IfOk result (λ p. Finds (Ok p) (spec.groups_listed (seen context.entry)).answer) }
 {
     let tree = listing_tree(alloc, context.org, context.state.shelves().groups())?;
-    Ok(Prepared {
-        reply: shown(alloc, &tree)?,
-        moves: Moves::new(alloc),
-    })
+    told(alloc, tree)
 }
 
 fn listing_tree(alloc: Global, org: &Text, groups: &PolicyGroups) -> Result<Tree, NoMemory>
@@ -187,8 +187,8 @@ fn listing_tree(alloc: Global, org: &Text, groups: &PolicyGroups) -> Result<Tree
 {
     let mut fields = Fields::new(alloc);
     for (name, assignments) in groups.entries() {
-        let tree = group_tree(alloc, org, name, assignments)?;
-        fields.put(name.copy(alloc)?, tree)?;
+        let copied = name.copy(alloc)?;
+        fields.put(copied, group_tree(alloc, org, name, assignments)?)?;
     }
     Ok(Tree::Dict(fields))
 }
@@ -202,9 +202,9 @@ fn group_tree(
 ) -> Result<Tree, NoMemory>
     ensures { IfOk result (λ tree. doc_of tree ≡ spec.group_doc org.now name.now assignments.now) }
 {
-    let policies = assigned_tree(alloc, assignments)?;
     let uri = group_path(alloc, org, name)?;
     let mut fields = Fields::with_capacity(alloc, 2)?;
+    let policies = assigned_tree(alloc, assignments)?;
     put(alloc, &mut fields, "policies", policies)?;
     put(alloc, &mut fields, "uri", Tree::Words(uri))?;
     Ok(Tree::Dict(fields))
@@ -267,9 +267,8 @@ pub(crate) fn remove(alloc: Global, context: Context<'_>, group: Text) -> Result
 {
     let reply = group_reply(alloc, context, &group)?;
     let key = key_of(alloc, Kind::PolicyGroup, group.as_str())?;
-    let mut moves = one_move(alloc, Move::OnShelves(ShelfMove::TakeGroup(group)))?;
-    moves.push(Move::TakeList(key))?;
-    Ok(Prepared { reply, moves })
+    let take = Move::OnShelves(ShelfMove::TakeGroup(group));
+    prepared(alloc, reply, take, Some(Move::TakeList(key)))
 }
 
 /// An assignment is shown.
@@ -290,16 +289,6 @@ pub(crate) fn show_assignment<L: Ledger>(
     })
 }
 
-// 200 with a lock that was found.
-fn lock_reply(alloc: Global, found: Option<&Revision>) -> Result<Reply, NoMemory>
-    ensures { IfOk result (λ reply. reply ≡ spec.lock_reply (option_copied found.entry)) }
-{
-    match found {
-        Some(lock) => shown(alloc, lock.tree()),
-        None => shown(alloc, &Tree::Null),
-    }
-}
-
 /// A lock is assigned, and stored before where it isn't there.
 pub(crate) fn assign<L: Ledger>(
     alloc: Global,
@@ -316,14 +305,55 @@ pub(crate) fn assign<L: Ledger>(
     if is_stored {
         steps.tick();
     }
+    Ok(assigned(alloc, context, is_stored, group, policy, lock)?)
+}
+
+// The reply to an assignment with its moves, where it is known whether the lock is stored.
+fn assigned(
+    alloc: Global,
+    context: Context<'_>,
+    is_stored: bool,
+    group: Text,
+    policy: Text,
+    lock: Lock,
+) -> Result<Prepared, NoMemory>
+    requires { is_stored ≡ is_some (policies.revision_at (seen context) policy lock.revision_id) }
+    ensures { IfOk result (λ p. Finds (Ok p) (spec.assigned (seen context.entry) group policy lock).answer) }
+{
     let is_new = assigned_revision(context, &group, &policy).is_none();
-    let reply = told_of_assigning(alloc, is_new, &lock.whole)?;
-    let revision = lock.revision_id.as_text().copy(alloc)?;
-    let stored = stored_first(alloc, context, is_stored, &policy, lock)?;
-    Ok(Prepared {
-        reply,
-        moves: with_assigning(alloc, context, stored, group, &policy, &revision)?,
-    })
+    match told_of_assigning(alloc, is_new, &lock.whole) {
+        Ok(reply) => Ok(Prepared {
+            reply,
+            moves: assigned_moves(alloc, context, is_stored, group, &policy, lock)?,
+        }),
+        Err(fault) => {
+            drop(lock);
+            Err(fault)
+        }
+    }
+}
+
+// The moves that store a lock where its revision isn't there, and then assign it.
+fn assigned_moves(
+    alloc: Global,
+    context: Context<'_>,
+    is_stored: bool,
+    group: Text,
+    policy: &Text,
+    lock: Lock,
+) -> Result<Moves, NoMemory>
+    ensures { IfOk result (λ moves. moves ≡ cond is_stored [] (policies.revision_moves (seen context.entry) policy.now lock) ++ spec.assigning (seen context.entry) group policy.now lock.revision_id) }
+{
+    match lock.revision_id.as_text().copy(alloc) {
+        Ok(revision) => {
+            let mut moves = stored_first(alloc, context, is_stored, policy, lock)?;
+            add_assigning(alloc, context, &mut moves, group, policy, &revision).and(Ok(moves))
+        }
+        Err(fault) => {
+            drop(lock);
+            Err(fault)
+        }
+    }
 }
 
 // The moves that store a lock where its revision isn't there.
@@ -337,9 +367,15 @@ fn stored_first(
     ensures { IfOk result (λ moves. moves ≡ cond is_stored [] (policies.revision_moves (seen context.entry) policy.now lock)) }
 {
     if is_stored {
-        Ok(Moves::new(alloc))
-    } else {
-        revision_moves(alloc, context, policy.copy(alloc)?, lock)
+        drop(lock);
+        return Ok(Moves::new(alloc));
+    }
+    match policy.copy(alloc) {
+        Ok(policy) => revision_moves(alloc, context, policy, lock),
+        Err(fault) => {
+            drop(lock);
+            Err(fault)
+        }
     }
 }
 
@@ -354,31 +390,63 @@ fn told_of_assigning(alloc: Global, is_new: bool, lock: &Tree) -> Result<Reply, 
     }
 }
 
-// These moves, and behind them those that assign a policy at a revision, with the group's list where the group is new.
-fn with_assigning(
+// Puts the moves behind others that assign a policy at a revision, with the group's list where the group is new.
+fn add_assigning(
     alloc: Global,
     context: Context<'_>,
-    before: Moves,
+    moves: &mut Moves,
     group: Text,
     policy: &Text,
     revision: &Text,
-) -> Result<Moves, NoMemory>
-    ensures { IfOk result (λ moves. moves ≡ before ++ spec.assigning (seen context.entry) group policy.now revision.now) }
+) -> Result<(), NoMemory>
+    ensures { OnOk result (moves.new ≡ moves.old ++ spec.assigning (seen context.entry) group policy.now revision.now) }
 {
-    let mut moves = before;
-    let found = group_of(context, &group);
-    let is_first = found.is_none();
-    let assignments = match found {
-        Some(assignments) => assignments.with(alloc, policy, revision)?,
-        None => Assignments::none(alloc).with(alloc, policy, revision)?,
-    };
-    let key = key_of(alloc, Kind::PolicyGroup, group.as_str())?;
-    moves.push(Move::OnShelves(ShelfMove::PutGroup(group, assignments)))?;
-    if is_first {
-        let list = created_list(alloc, context, Container::PolicyGroups)?;
-        moves.push(Move::PutList(key, list))?;
+    let assignments = with_assignment(alloc, group_of(context, &group), policy, revision)?;
+    match first_group_list(alloc, context, &group) {
+        Ok(list) => {
+            let put = ShelfMove::PutGroup(group, assignments);
+            add(moves, Move::OnShelves(put), list)
+        }
+        Err(fault) => {
+            drop(assignments);
+            Err(fault)
+        }
     }
-    Ok(moves)
+}
+
+// What a group assigns, of which one that isn't there assigns nothing, with a policy at this revision.
+fn with_assignment(
+    alloc: Global,
+    found: Option<&Assignments>,
+    policy: &Text,
+    revision: &Text,
+) -> Result<Assignments, NoMemory>
+    ensures { IfOk result (λ a. a ≡ finite.insert (unwrap_or (option_copied found.entry) finite.empty) policy.now revision.now) }
+{
+    match found {
+        Some(assignments) => assignments.with(alloc, policy, revision),
+        None => Assignments::none(alloc).with(alloc, policy, revision),
+    }
+}
+
+// A group's access list comes with its first assignment.
+fn first_group_list(
+    alloc: Global,
+    context: Context<'_>,
+    group: &Text,
+) -> Result<Option<Move>, NoMemory>
+    ensures { IfOk result (λ o. if_there o ≡ spec.first_group_list (seen context.entry) group.now) }
+{
+    let is_there = has_group(context, group);
+    let container = Container::PolicyGroups;
+    list_of_first(
+        alloc,
+        context,
+        is_there,
+        Kind::PolicyGroup,
+        group,
+        container,
+    )
 }
 
 /// An assignment goes. The revision stays, and so does the group.
@@ -393,14 +461,34 @@ pub(crate) fn unassign<L: Ledger>(
     ensures looked { Looked result (spec.unassigned_from (seen context.entry) group policy.now).looks steps.old steps.new }
 {
     steps.tick();
+    Ok(unassigned(alloc, context, group, policy)?)
+}
+
+// 200 with the lock that was assigned, and the move that takes the assignment out of the group.
+fn unassigned(
+    alloc: Global,
+    context: Context<'_>,
+    group: Text,
+    policy: &Text,
+) -> Result<Prepared, NoMemory>
+    ensures { IfOk result (λ p. Finds (Ok p) (spec.unassigned_from (seen context.entry) group policy.now).answer) }
+{
     let reply = lock_reply(alloc, assigned_lock(context, &group, policy))?;
-    let assignments = match group_of(context, &group) {
-        Some(assignments) => assignments.without(alloc, policy)?,
-        None => Assignments::none(alloc).without(alloc, policy)?,
-    };
+    let assignments = without_assignment(alloc, group_of(context, &group), policy)?;
     let put = ShelfMove::PutGroup(group, assignments);
-    Ok(Prepared {
-        reply,
-        moves: one_move(alloc, Move::OnShelves(put))?,
-    })
+    prepared(alloc, reply, Move::OnShelves(put), None)
+}
+
+// What a group assigns, of which one that isn't there assigns nothing, without this policy.
+fn without_assignment(
+    alloc: Global,
+    found: Option<&Assignments>,
+    policy: &Text,
+) -> Result<Assignments, NoMemory>
+    ensures { IfOk result (λ a. a ≡ finite.remove (unwrap_or (option_copied found.entry) finite.empty) policy.now) }
+{
+    match found {
+        Some(assignments) => assignments.without(alloc, policy),
+        None => Assignments::none(alloc).without(alloc, policy),
+    }
 }

@@ -6,6 +6,7 @@ mod artifact_routes;
 mod group_routes;
 mod laws;
 mod lock_bodies;
+mod moving;
 mod operations;
 mod policies;
 mod policy_listings;

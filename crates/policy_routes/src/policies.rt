@@ -4,6 +4,7 @@ ghost use Rattle.std.specs.Prelude.{◌≡◌, ◌∷◌, [], IfOk};
 ghost use Rattle.org_core.specs.Contexts.{seen};
 ghost use Rattle.org_core.specs.Refusals.{Tells};
 ghost use Rattle.policy_routes.specs.PolicyRules as spec;
+ghost use Rattle.policy_routes.specs.Stops.{or_stop as spec_or_stop};
 
 use crate::operations::PolicyOperation;
 use crate::{artifact_routes, group_routes, policy_listings, revision_routes};
@@ -150,33 +151,35 @@ impl Group for Policies {
         steps: &mut Steps<L>,
     ) -> Result<Prepared, Stop> {
         match operation {
-            PolicyOperation::ListArtifacts => Ok(artifact_routes::list(alloc, context)?),
+            PolicyOperation::ListArtifacts => or_stop(artifact_routes::list(alloc, context)),
             PolicyOperation::ShowArtifact(name, id) => {
                 artifact_routes::show(alloc, context, &name, &id, steps)
             }
             PolicyOperation::PutArtifact(name, id, edition) => {
-                Ok(artifact_routes::put_artifact(alloc, context, name, id, edition)?)
+                or_stop(artifact_routes::put_artifact(alloc, context, name, id, edition))
             }
             PolicyOperation::RemoveArtifact(name, id) => {
                 artifact_routes::remove(alloc, context, name, id, steps)
             }
-            PolicyOperation::ListPolicies => Ok(policy_listings::list(alloc, context)?),
+            PolicyOperation::ListPolicies => or_stop(policy_listings::list(alloc, context)),
             PolicyOperation::ShowPolicy(policy) => {
-                Ok(policy_listings::show(alloc, context, &policy)?)
+                or_stop(policy_listings::show(alloc, context, &policy))
             }
             PolicyOperation::RemovePolicy(policy) => {
-                Ok(policy_listings::remove(alloc, context, policy)?)
+                or_stop(policy_listings::remove(alloc, context, policy))
             }
             PolicyOperation::AddRevision(policy, lock) => {
-                Ok(revision_routes::add(alloc, context, policy, lock)?)
+                or_stop(revision_routes::add(alloc, context, policy, lock))
             }
             PolicyOperation::ShowRevision(policy, revision) => {
                 revision_routes::show(alloc, context, &policy, &revision, steps)
             }
-            PolicyOperation::ListGroups => Ok(group_routes::list(alloc, context)?),
-            PolicyOperation::ShowGroup(group) => Ok(group_routes::show(alloc, context, &group)?),
+            PolicyOperation::ListGroups => or_stop(group_routes::list(alloc, context)),
+            PolicyOperation::ShowGroup(group) => or_stop(group_routes::show(
+                alloc, context, &group,
+            )),
             PolicyOperation::RemoveGroup(group) => {
-                Ok(group_routes::remove(alloc, context, group)?)
+                or_stop(group_routes::remove(alloc, context, group))
             }
             PolicyOperation::ShowAssignment(group, policy) => {
                 group_routes::show_assignment(alloc, context, &group, &policy, steps)
@@ -191,6 +194,13 @@ impl Group for Policies {
     }
 }
 
+// What was prepared, or want of memory as a stop.
+fn or_stop(prepared: Result<Prepared, NoMemory>) -> Result<Prepared, Stop>
+    ensures { result ≡ spec_or_stop prepared }
+{
+    Ok(prepared?)
+}
+
 // What is asked by reading alone.
 fn only_get(asked: PolicyOperation, verb: Verb) -> Result<PolicyOperation, Stop>
     ensures { Tells result (spec.only_get asked verb) }
@@ -198,6 +208,7 @@ fn only_get(asked: PolicyOperation, verb: Verb) -> Result<PolicyOperation, Stop>
     match verb {
         Verb::Get => Ok(asked),
         Verb::Post | Verb::Put | Verb::Delete | Verb::Other => {
+            drop(asked);
             Err(Stop::Refused(Refusal::NotAllowed))
         }
     }

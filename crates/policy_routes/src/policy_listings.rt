@@ -9,11 +9,10 @@ ghost use Rattle.org_core.specs.Outcomes.{Finds};
 ghost use Rattle.org_core.specs.Replies.{one_key};
 ghost use Rattle.policy_routes.specs.Policies as spec;
 
+use crate::moving::{prepared, told};
 use crate::trees::put;
 use doc_tree::{Fields, Kind, NoMemory, Text, Tree};
-use org_core::{
-    Context, Move, Moves, Prepared, Reply, joined, key_of, one_move, org_uri, shown, shown_key,
-};
+use org_core::{Context, Move, Moves, Prepared, Reply, joined, key_of, org_uri, shown_key};
 use org_shelves::{Policies, Revision, ShelfMove};
 use shelves::SortedMap;
 use std::alloc::Global;
@@ -23,10 +22,7 @@ pub(crate) fn list(alloc: Global, context: Context<'_>) -> Result<Prepared, NoMe
     ensures { IfOk result (λ p. Finds (Ok p) (spec.policies_listed (seen context.entry)).answer) }
 {
     let tree = listing_tree(alloc, context.org, context.state.shelves().policies())?;
-    Ok(Prepared {
-        reply: shown(alloc, &tree)?,
-        moves: Moves::new(alloc),
-    })
+    told(alloc, tree)
 }
 
 fn listing_tree(alloc: Global, org: &Text, policies: &Policies) -> Result<Tree, NoMemory>
@@ -34,8 +30,8 @@ fn listing_tree(alloc: Global, org: &Text, policies: &Policies) -> Result<Tree, 
 {
     let mut fields = Fields::new(alloc);
     for (name, shelf) in policies.shelves() {
-        let tree = listed_tree(alloc, org, name, shelf)?;
-        fields.put(name.copy(alloc)?, tree)?;
+        let copied = name.copy(alloc)?;
+        fields.put(copied, listed_tree(alloc, org, name, shelf)?)?;
     }
     Ok(Tree::Dict(fields))
 }
@@ -49,9 +45,9 @@ fn listed_tree(
 ) -> Result<Tree, NoMemory>
     ensures { IfOk result (λ tree. doc_of tree ≡ spec.listed_policy org.now name.now (map_of text_cmp shelf.now)) }
 {
-    let revisions = revisions_tree(alloc, shelf)?;
     let uri = policy_path(alloc, org, name)?;
     let mut fields = Fields::with_capacity(alloc, 2)?;
+    let revisions = revisions_tree(alloc, shelf)?;
     put(alloc, &mut fields, "revisions", revisions)?;
     put(alloc, &mut fields, "uri", Tree::Words(uri))?;
     Ok(Tree::Dict(fields))
@@ -105,7 +101,6 @@ pub(crate) fn remove(
 {
     let reply = policy_reply(alloc, context, &policy)?;
     let key = key_of(alloc, Kind::Policy, policy.as_str())?;
-    let mut moves = one_move(alloc, Move::OnShelves(ShelfMove::TakePolicy(policy)))?;
-    moves.push(Move::TakeList(key))?;
-    Ok(Prepared { reply, moves })
+    let take = Move::OnShelves(ShelfMove::TakePolicy(policy));
+    prepared(alloc, reply, take, Some(Move::TakeList(key)))
 }

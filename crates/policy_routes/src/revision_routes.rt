@@ -7,16 +7,21 @@ ghost use Rattle.shelves.specs.Shelves.{has_shelf};
 ghost use Rattle.org_core.specs.Contexts.{seen};
 ghost use Rattle.org_core.specs.Outcomes.{Finds, Looked};
 ghost use Rattle.org_core.specs.Refusals.{Tells};
+ghost use Rattle.org_core.specs.declared.moves.Move.TheVariants as move;
+ghost use Rattle.org_shelves.specs.declared.shelf_moves.ShelfMove.TheVariants as shelf;
+ghost use Rattle.policy_routes.specs.Groups as groups;
+ghost use Rattle.policy_routes.specs.Moving.{if_there};
 ghost use Rattle.policy_routes.specs.Policies as spec;
 ghost use Rattle.policy_routes.specs.PolicyRules as rules;
 
 use crate::lock_bodies::{artifact_refusal, lock_in};
+use crate::moving::{followed, list_of_first};
 use crate::operations::PolicyOperation;
 use access_lists::{Container, Perm};
 use doc_tree::{Kind, Name, NoMemory, Steps, Text, Tree, is_name};
 use org_core::{
-    Body, Context, Move, Moves, Need, Prepared, Refusal, Stop, absent, created_list, key_of,
-    listed_need, made, one_move, shown,
+    Body, Context, Move, Moves, Need, Prepared, Refusal, Reply, Stop, absent, listed_need, made,
+    shown,
 };
 use org_shelves::{Revision, ShelfMove};
 use policy_locks::Lock;
@@ -128,14 +133,20 @@ pub(crate) fn show<L: Ledger>(
     ensures looked { Looked result (spec.revision_shown (seen context.entry) policy.now revision.now).looks steps.old steps.new }
 {
     steps.tick();
-    let reply = match revision_at(context, policy, revision) {
-        Some(lock) => shown(alloc, lock.tree())?,
-        None => shown(alloc, &Tree::Null)?,
-    };
     Ok(Prepared {
-        reply,
+        reply: lock_reply(alloc, revision_at(context, policy, revision))?,
         moves: Moves::new(alloc),
     })
+}
+
+/// 200 with a lock that was found.
+pub(crate) fn lock_reply(alloc: Global, found: Option<&Revision>) -> Result<Reply, NoMemory>
+    ensures { IfOk result (λ reply. reply ≡ groups.lock_reply (option_copied found.entry)) }
+{
+    match found {
+        Some(lock) => shown(alloc, lock.tree()),
+        None => shown(alloc, &Tree::Null),
+    }
 }
 
 /// A revision is added.
@@ -147,9 +158,16 @@ pub(crate) fn add(
 ) -> Result<Prepared, NoMemory>
     ensures { IfOk result (λ p. Finds (Ok p) (spec.revision_added (seen context.entry) policy lock).answer) }
 {
-    let reply = made(alloc, &lock.whole)?;
-    let moves = revision_moves(alloc, context, policy, lock)?;
-    Ok(Prepared { reply, moves })
+    match made(alloc, &lock.whole) {
+        Ok(reply) => Ok(Prepared {
+            reply,
+            moves: revision_moves(alloc, context, policy, lock)?,
+        }),
+        Err(fault) => {
+            drop(lock);
+            Err(fault)
+        }
+    }
 }
 
 /// A lock is stored as a revision of a policy, with the policy's list where it is the first.
@@ -161,14 +179,46 @@ pub(crate) fn revision_moves(
 ) -> Result<Moves, NoMemory>
     ensures { IfOk result (λ moves. moves ≡ spec.revision_moves (seen context.entry) policy lock) }
 {
-    let is_first = !has_policy(context, &policy);
-    let key = key_of(alloc, Kind::Policy, policy.as_str())?;
-    let revision = lock.revision_id.as_text().copy(alloc)?;
-    let put = ShelfMove::PutRevision(policy, revision, Revision::of(lock));
-    let mut moves = one_move(alloc, Move::OnShelves(put))?;
-    if is_first {
-        let list = created_list(alloc, context, Container::Policies)?;
-        moves.push(Move::PutList(key, list))?;
+    match first_policy_list(alloc, context, &policy) {
+        Ok(list) => put_revision(alloc, policy, lock, list),
+        Err(fault) => {
+            drop(lock);
+            Err(fault)
+        }
     }
-    Ok(moves)
+}
+
+// A policy's access list comes with its first revision.
+fn first_policy_list(
+    alloc: Global,
+    context: Context<'_>,
+    policy: &Text,
+) -> Result<Option<Move>, NoMemory>
+    ensures { IfOk result (λ o. if_there o ≡ spec.first_policy_list (seen context.entry) policy.now) }
+{
+    let is_there = has_policy(context, policy);
+    let container = Container::Policies;
+    list_of_first(alloc, context, is_there, Kind::Policy, policy, container)
+}
+
+// A lock is stored as a revision of a policy, and behind that comes a list where there is one.
+fn put_revision(
+    alloc: Global,
+    policy: Text,
+    lock: Lock,
+    list: Option<Move>,
+) -> Result<Moves, NoMemory>
+    ensures { IfOk result (λ moves. moves ≡ move.OnShelves (shelf.PutRevision policy lock.revision_id (doc_of lock.whole)) ∷ if_there list) }
+{
+    match lock.revision_id.as_text().copy(alloc) {
+        Ok(revision) => {
+            let put = ShelfMove::PutRevision(policy, revision, Revision::of(lock));
+            followed(alloc, Move::OnShelves(put), list)
+        }
+        Err(fault) => {
+            drop(lock);
+            drop(list);
+            Err(fault)
+        }
+    }
 }
