@@ -1,5 +1,0 @@
-//! Tests of `attr_merge`.
-#![tactic(auto)]
-
-#[cfg(test)]
-mod tests;

@@ -1,0 +1,15 @@
+//! Tests of what every crate stands on, and of the words of the command line.
+#![tactic(auto)]
+
+#[cfg(test)]
+mod command_words_tests;
+#[cfg(test)]
+mod doc_tree_tests;
+#[cfg(test)]
+mod ordered_keys_tests;
+#[cfg(test)]
+mod outside_core_tests;
+#[cfg(test)]
+mod outside_disk_tests;
+#[cfg(test)]
+mod yaml_subset_tests;

@@ -1,5 +1,0 @@
-//! Tests of `converge`.
-#![tactic(auto)]
-
-#[cfg(test)]
-mod tests;

@@ -1,5 +1,0 @@
-//! Tests of `cookbook_editions`.
-#![tactic(auto)]
-
-#[cfg(test)]
-mod tests;

@@ -1,5 +1,0 @@
-//! Tests of `cookbook_meta`.
-#![tactic(auto)]
-
-#[cfg(test)]
-mod tests;

@@ -1,5 +1,0 @@
-//! Tests of `dep_solver`.
-#![tactic(auto)]
-
-#[cfg(test)]
-mod tests;

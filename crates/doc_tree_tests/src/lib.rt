@@ -1,5 +1,0 @@
-//! Tests of `doc_tree`.
-#![tactic(auto)]
-
-#[cfg(test)]
-mod tests;

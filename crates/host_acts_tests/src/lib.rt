@@ -1,5 +1,0 @@
-//! Tests of `host_acts`.
-#![tactic(auto)]
-
-#[cfg(test)]
-mod tests;

@@ -1,5 +1,0 @@
-//! Tests of `host_tree`.
-#![tactic(auto)]
-
-#[cfg(test)]
-mod tests;

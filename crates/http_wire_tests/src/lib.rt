@@ -1,5 +1,0 @@
-//! Tests of `http_wire`.
-#![tactic(auto)]
-
-#[cfg(test)]
-mod tests;

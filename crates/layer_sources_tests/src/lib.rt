@@ -1,5 +1,0 @@
-//! Tests of `layer_sources`.
-#![tactic(auto)]
-
-#[cfg(test)]
-mod tests;

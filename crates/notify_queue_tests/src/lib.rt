@@ -1,5 +1,0 @@
-//! Tests of `notify_queue`.
-#![tactic(auto)]
-
-#[cfg(test)]
-mod tests;

@@ -1,5 +1,0 @@
-//! Tests of `object_forms`.
-#![tactic(auto)]
-
-#[cfg(test)]
-mod tests;

@@ -1,5 +1,0 @@
-//! Tests of `object_store`.
-#![tactic(auto)]
-
-#[cfg(test)]
-mod tests;

@@ -1,5 +1,0 @@
-//! Tests of `ordered_keys`.
-#![tactic(auto)]
-
-#[cfg(test)]
-mod tests;

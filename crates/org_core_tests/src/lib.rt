@@ -1,5 +1,0 @@
-//! Tests of `org_core`.
-#![tactic(auto)]
-
-#[cfg(test)]
-mod tests;

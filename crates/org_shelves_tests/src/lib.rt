@@ -1,5 +1,0 @@
-//! The tests of `org_shelves`.
-#![tactic(auto)]
-
-#[cfg(test)]
-mod tests;

@@ -1,5 +1,0 @@
-//! Tests of `outside_core`.
-#![tactic(auto)]
-
-#[cfg(test)]
-mod tests;

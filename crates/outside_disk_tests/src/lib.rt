@@ -1,5 +1,0 @@
-//! Tests of `outside_disk`.
-#![tactic(auto)]
-
-#[cfg(test)]
-mod tests;

@@ -1,5 +1,0 @@
-//! Tests of `query_text`.
-#![tactic(auto)]
-
-#[cfg(test)]
-mod tests;

@@ -1,5 +1,0 @@
-//! Tests of `resource_core`.
-#![tactic(auto)]
-
-#[cfg(test)]
-mod tests;

@@ -1,5 +1,0 @@
-//! Tests of `run_expansion`.
-#![tactic(auto)]
-
-#[cfg(test)]
-mod tests;

@@ -1,5 +1,0 @@
-//! Tests of `run_list`.
-#![tactic(auto)]
-
-#[cfg(test)]
-mod tests;

@@ -1,5 +1,0 @@
-//! Tests of `sandboxes`.
-#![tactic(auto)]
-
-#[cfg(test)]
-mod tests;

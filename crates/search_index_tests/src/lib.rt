@@ -1,5 +1,0 @@
-//! Tests of `search_index`.
-#![tactic(auto)]
-
-#[cfg(test)]
-mod tests;

@@ -1,5 +1,0 @@
-//! Tests of `search_query`.
-#![tactic(auto)]
-
-#[cfg(test)]
-mod tests;

@@ -1,5 +1,0 @@
-//! Tests of `search_rows`.
-#![tactic(auto)]
-
-#[cfg(test)]
-mod tests;

@@ -1,5 +1,0 @@
-//! Tests of `search_scan`.
-#![tactic(auto)]
-
-#[cfg(test)]
-mod tests;

@@ -1,5 +1,0 @@
-//! Tests of `shard_core`.
-#![tactic(auto)]
-
-#[cfg(test)]
-mod tests;

@@ -1,5 +1,0 @@
-//! Tests of `shelves`.
-#![tactic(auto)]
-
-#[cfg(test)]
-mod tests;

@@ -1,5 +1,0 @@
-//! Tests of `version_rules`.
-#![tactic(auto)]
-
-#[cfg(test)]
-mod tests;

@@ -1,5 +1,0 @@
-//! Tests of `yaml_subset`.
-#![tactic(auto)]
-
-#[cfg(test)]
-mod tests;
