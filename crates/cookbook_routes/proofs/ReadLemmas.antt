@@ -1,5 +1,5 @@
 -- What is read of a PUT of a cookbook version: a name and a manifest of their forms.
-use Rattle.std.proofs.Common.{◌≡◌, ℕ, Bool, true, false, List, Option, Some, None, Result, Ok, Err, cond, refl, sym, ap, subst, ◌∙◌}
+use Rattle.std.proofs.Common.{◌≡◌, ℕ, Bool, true, false, List, Option, Some, None, Result, Ok, Err, refl, sym, ap, subst, ◌∙◌}
 use Rattle.std.proofs.lemmas.Option.{same_Some}
 use Rattle.cookbook_editions.specs.Kept.{IsStored, stored_from}
 use Rattle.cookbook_meta.proofs.ReadBackLemmas.{manifests_again}

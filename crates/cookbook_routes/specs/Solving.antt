@@ -1,5 +1,5 @@
 -- The route of the versions for a run list: the best set of cookbook versions, or that there is none.
-use Rattle.std.specs.Prelude.{◌≡◌, ℕ, ◌+◌, List, [], ◌∷◌, map, length, codes, Option, Some, None, option_and_then, Result, Ok, Err}
+use Rattle.std.specs.Prelude.{◌≡◌, ℕ, ◌+◌, List, [], map, length, codes, Option, Some, None, option_and_then, Result, Ok, Err}
 use Rattle.cookbook_editions.specs.Editions.{read_or}
 use Rattle.cookbook_editions.specs.Universes.{universe_of}
 use Rattle.cookbook_meta.specs.Metadata.{needs_of}
@@ -17,7 +17,7 @@ use Rattle.run_list_roots.specs.Reading.{recipes_of}
 use Rattle.run_list_roots.specs.Roots.{roots_in}
 use Rattle.run_list.specs.Stored.{Stored}
 use Rattle.org_core.specs.Contexts.{Context}
-use Rattle.org_core.specs.Outcomes.{Done, Decided, shows}
+use Rattle.org_core.specs.Outcomes.{Decided, shows}
 use Rattle.org_core.specs.States.{cookbooks_of, object_in}
 use Rattle.org_core.specs.declared.refusals.Refusal.{Refusal}
 use Rattle.org_core.specs.declared.refusals.Refusal.TheVariants.{BadField, Unsolvable}
