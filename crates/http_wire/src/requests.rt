@@ -86,8 +86,13 @@ fn read_framed<S: Source>(
 {
     let head = read_parts(alloc, room.routes(), room.held(), headers, frame.spans);
     let form = body_form(&head);
-    let body = end_message(alloc, room, source, frame.spans.len, form, frame.size)?;
-    Ok(request_from(alloc, head, form, body))
+    match end_message(alloc, room, source, frame.spans.len, form, frame.size) {
+        Ok(body) => Ok(request_from(alloc, head, form, body)),
+        Err(fault) => {
+            drop(head);
+            Err(fault)
+        }
+    }
 }
 
 // What the head says of the request, copied out of the room, which the body may need.
@@ -149,7 +154,10 @@ fn request_with(alloc: Global, head: Head, form: BodyForm, body: KeptBody) -> Re
 {
     match parsed(alloc, form, body) {
         Ok(body) => placed(alloc, head, body),
-        Err(NoMemory) => lost(alloc),
+        Err(NoMemory) => {
+            drop(head);
+            lost(alloc)
+        }
     }
 }
 
