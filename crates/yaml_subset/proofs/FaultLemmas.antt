@@ -24,6 +24,7 @@ use Rattle.yaml_subset.specs.declared.reader.Place.TheVariants as at_place
 use Rattle.yaml_subset.specs.declared.reader.Reader.{Reader}
 use Rattle.yaml_subset.proofs.MachineLemmas.{land_stops}
 use Rattle.yaml_subset.proofs.LinesLemmas.{lines_are, lines_none, total}
+use Rattle.yaml_subset.proofs.Reading.{comes_spells, spells_comes}
 
 -- ---- what was read can always end
 
@@ -129,11 +130,11 @@ spells_is : (all : List (List ℕ)) → total all (Some first_reader) ≡ option
 spells_is all = lines_are all (outside true) Start tt
 
 pub none_spelled : (all : List (List ℕ)) → read_lines all (Some first_reader) ≡ None → (d : Doc) → SpellsLines all d → ⊥
-none_spelled all none d spelled = let same = sym (ap (option_and_then end_of) none) ∙ spells_is all ∙ spelled in cc
+none_spelled all none d spelled = let same = sym (ap (option_and_then end_of) none) ∙ spells_is all ∙ spells_comes all d spelled in cc
 
 goes_begins : (all : List (List ℕ)) (m : ℕ) → Goes (take m all) first_reader → Begins all m
 goes_begins all m (r, goes, fine) =
-    let (d, ends) = place_ends r.place r.blocks fine in (d, sym (spells_is (take m all)) ∙ ap (option_and_then end_of) goes ∙ ends)
+    let (d, ends) = place_ends r.place r.blocks fine in (d, comes_spells (take m all) d (sym (spells_is (take m all)) ∙ ap (option_and_then end_of) goes ∙ ends))
 
 pub line_is : (all : List (List ℕ)) (n : ℕ) → read_lines all (Some first_reader) ≡ None → n ≡ taken_lines all (Some first_reader) → IsLine all n
 line_is all n none is =
@@ -143,7 +144,7 @@ line_is all n none is =
 
 -- what was read to the end spells its document
 pub read_spells : (all : List (List ℕ)) (r : Reader) (d : Doc) → read_lines all (Some first_reader) ≡ Some r → end_of r ≡ Some d → SpellsLines all d
-read_spells all r d reads ends = sym (spells_is all) ∙ ap (option_and_then end_of) reads ∙ ends
+read_spells all r d reads ends = comes_spells all d (sym (spells_is all) ∙ ap (option_and_then end_of) reads ∙ ends)
 
 -- ---- one line more
 

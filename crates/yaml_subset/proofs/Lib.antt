@@ -1,6 +1,9 @@
 pub mod PairsLemmas
 pub mod FallingLemmas
 pub mod MachineLemmas
+pub mod NodeRuns
+pub mod NodeSound
+pub mod Reading
 pub mod SignsLemmas
 pub mod ScalarLemmas
 pub mod QuotedLemmas

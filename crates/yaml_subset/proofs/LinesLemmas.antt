@@ -8,7 +8,6 @@ use Rattle.yaml_subset.specs.Layout.{Mode, outside, within, a_sign, is_lone, lay
 use Rattle.yaml_subset.specs.Machine.{finish, run, step, wants}
 use Rattle.yaml_subset.specs.Reader.{a_reader, end_of, enters, held_mark, outside_step, read_lines, said_step, within_step}
 use Rattle.yaml_subset.specs.Said.{said_at}
-use Rattle.yaml_subset.specs.Spells.{marks_end}
 use Rattle.yaml_subset.specs.declared.mark.Mark.{Mark}
 use Rattle.yaml_subset.specs.declared.said.Rest.{Rest}
 use Rattle.yaml_subset.specs.declared.said.Rest.TheVariants.{Nothing, Scalar, Literal}
@@ -19,6 +18,7 @@ use Rattle.yaml_subset.specs.declared.reader.Place.{Place}
 use Rattle.yaml_subset.specs.declared.reader.Place.TheVariants.{Outside, Within}
 use Rattle.yaml_subset.specs.declared.reader.Reader.{Reader}
 use Rattle.yaml_subset.proofs.MachineLemmas.{run_append, run_none, step_unwanted}
+use Rattle.yaml_subset.proofs.Reading.{marks_end}
 use Rattle.yaml_subset.proofs.LiteralLemmas.{adds_more, held_indent, held_of, literal_is}
 
 pub lines_none : (lines : List (List ℕ)) → read_lines lines None ≡ None

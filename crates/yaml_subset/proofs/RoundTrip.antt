@@ -9,7 +9,7 @@ use Rattle.yaml_subset.specs.Layout.{is_lone, lays, lays_said, next_mode, outsid
 use Rattle.yaml_subset.specs.Machine.{finish, run}
 use Rattle.yaml_subset.specs.Said.{a_said, said_at}
 use Rattle.yaml_subset.specs.Signs.{has_tab, is_marker, is_opening, is_passed, spaces}
-use Rattle.yaml_subset.specs.Spells.{Spells, marks_end}
+use Rattle.yaml_subset.specs.Spells.{Spells}
 use Rattle.yaml_subset.specs.Written.{block_text, deeper, is_block, items_text, node_text, pairs_text, scalar_text, words_text, written}
 use Rattle.yaml_subset.specs.declared.mark.Mark.{Mark}
 use Rattle.yaml_subset.specs.declared.mark.Mark.TheVariants.{Dash, Key, Value}
@@ -19,6 +19,7 @@ use Rattle.yaml_subset.specs.declared.blocks.Blocks.TheVariants.{Alone, Start}
 use Rattle.yaml_subset.proofs.BlockLemmas.{block_runs, items_marks, pairs_marks, part_marks}
 use Rattle.yaml_subset.proofs.CutLemmas.{all_append, is_inline, next_line}
 use Rattle.yaml_subset.proofs.PartLemmas.{IsHead, Reads, dash_head, key_head, said_back, scalar_reads}
+use Rattle.yaml_subset.proofs.Reading.{comes_spells, marks_end}
 use Rattle.yaml_subset.proofs.SignsLemmas.{passed_spaces}
 
 -- ---- lines behind their indent
@@ -199,15 +200,17 @@ mutual
 
 block_spells : (d : Doc) → IsDoc d → depth d ≤ 100 → is_block d ≡ true → Spells (block_text [] d) d
 block_spells d v shallow block =
-    ap (λ (t : List ℕ). marks_end Start (lays (outside true) (lines t))) (sym (append-nil (block_text [] d)))
-    ∙ ap (marks_end Start) (block_lays d 0 [] true v block) ∙ ap (λ (ms : List Mark). option_map finish (run (Some Start) ms)) (append-nil (part_marks 0 d)) ∙ block_runs d v block shallow
+    comes_spells (lines (block_text [] d)) d
+    (ap (λ (t : List ℕ). marks_end Start (lays (outside true) (lines t))) (sym (append-nil (block_text [] d)))
+    ∙ ap (marks_end Start) (block_lays d 0 [] true v block) ∙ ap (λ (ms : List Mark). option_map finish (run (Some Start) ms)) (append-nil (part_marks 0 d)) ∙ block_runs d v block shallow)
 
 scalar_spells : (d : Doc) → IsDoc d → depth d ≤ 100 → is_block d ≡ false → Spells (scalar_text d ++ 10 ∷ []) d
 scalar_spells d v shallow no_ =
     let r = scalar_reads d v no_ in
     let starts : Starts (scalar_text d) = record { first = r.first; after = r.after; is = r.is; space = r.space; hash = r.hash; tab = r.tab } in
-    ap (marks_end Start) (text_lays 0 (scalar_text d) [] true [] 0 (Scalar d) starts r.inline (ap is_marker r.is ∙ r.marker) (said_back 0 0 (scalar_text d) d r) refl)
-    ∙ ap (λ (t : Bool). option_map finish (if t then Some (Alone d) else None)) (le-leb (depth d) 100 shallow)
+    comes_spells (lines (scalar_text d ++ 10 ∷ [])) d
+    (ap (marks_end Start) (text_lays 0 (scalar_text d) [] true [] 0 (Scalar d) starts r.inline (ap is_marker r.is ∙ r.marker) (said_back 0 0 (scalar_text d) d r) refl)
+    ∙ ap (λ (t : Bool). option_map finish (if t then Some (Alone d) else None)) (le-leb (depth d) 100 shallow))
 
 -- the text of a tree that nests at most 100 deep spells that tree
 pub spells_written : (d : Doc) → IsDoc d → depth d ≤ 100 → Spells (written d) d

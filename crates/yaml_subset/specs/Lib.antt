@@ -1,5 +1,6 @@
 pub mod Signs
 pub mod Pairs
+pub mod Nodes
 pub mod Machine
 pub mod Quoted
 pub mod Scalar

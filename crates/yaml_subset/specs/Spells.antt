@@ -1,26 +1,20 @@
 -- Which tree a text spells.
-use Rattle.std.specs.Prelude.{◌≡◌, ◌<◌, ◌≤◌, ℕ, true, ◌-◌, ◌||◌, if◌then◌else◌, List, length, take, slice_get, Option, Some, option_map, option_and_then, ⊤}
+use Rattle.std.specs.Prelude.{◌≡◌, ◌<◌, ◌≤◌, ℕ, true, ◌-◌, ◌||◌, if◌then◌else◌, List, length, take, slice_get, Some, option_map, ⊤}
 use Rattle.std.specs.Str.Lines.{lines}
 use Rattle.doc_tree.specs.Doc.{Doc}
 use Rattle.yaml_subset.specs.Signs.{has_tab, is_marker}
 use Rattle.yaml_subset.specs.Layout.{lays, outside}
-use Rattle.yaml_subset.specs.Machine.{finish, run}
+use Rattle.yaml_subset.specs.Nodes.{SpellsMarks}
 use Rattle.yaml_subset.specs.Said.{is_left_out, value_of}
 use Rattle.yaml_subset.specs.declared.mark.Mark.{Mark}
-use Rattle.yaml_subset.specs.declared.blocks.Blocks.{Blocks}
-use Rattle.yaml_subset.specs.declared.blocks.Blocks.TheVariants.{Start}
 use Rattle.yaml_subset.specs.declared.fault.FaultKind.{FaultKind}
 use Rattle.yaml_subset.specs.declared.fault.FaultKind.TheVariants.{Tab, LeftOut, Form}
 use Rattle.yaml_subset.specs.declared.fault.YamlFault.{YamlFault}
 use Rattle.yaml_subset.specs.declared.fault.YamlFault.TheVariants.{Refused, NoMemory}
 
--- the document that marks come to from here
-abbrev pub marks_end : Blocks → Option (List Mark) → Option Doc
-marks_end s laid = option_and_then (λ ms. option_map finish (run (Some s) ms)) laid
-
--- the lines spell the document: their marks come to it
+-- the lines spell the document: their marks do
 abbrev pub SpellsLines : List (List ℕ) → Doc → Type 0
-SpellsLines all d = marks_end Start (lays (outside true) all) ≡ Some d
+SpellsLines all d = (marks : List Mark) × (lays (outside true) all ≡ Some marks) × SpellsMarks marks d
 
 -- the text spells the document
 abbrev pub Spells : List ℕ → Doc → Type 0

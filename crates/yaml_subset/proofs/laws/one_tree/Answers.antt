@@ -1,6 +1,7 @@
-use Rattle.std.proofs.Common.{sym, ◌∙◌}
-use Rattle.std.proofs.lemmas.Option.{same_Some}
+-- Both are what its lines are read to.
+use Rattle.std.specs.Str.Lines.{lines}
+use Rattle.yaml_subset.proofs.Reading.{spells_one}
 use Rattle.yaml_subset.proofs.laws.one_tree.Goals as goal
 
 pub returns : goal.returns
-returns c = λ text d e one two. same_Some d e (sym one ∙ two)
+returns c = λ text d e one two. spells_one (lines text) d e one two
