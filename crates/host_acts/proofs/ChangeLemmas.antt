@@ -12,8 +12,8 @@ use Rattle.host_tree.specs.declared.entry.Entry.TheVariants.{File, Directory, Li
 use Rattle.host_tree.specs.declared.seen.Seen.{Seen}
 use Rattle.host_tree.specs.declared.seen.Seen.TheVariants.{Absent, LinkThere}
 use Rattle.host_acts.specs.Acts as act
-use Rattle.host_acts.specs.Acts.{Updates, entry_after, given}
-use Rattle.host_acts.specs.Changes.{Becomes, IsNoDirectory, IsUnlinked, KeepsOthers, SetsDue, Stands, content_put, directory_put, is_kept, text_of, unlinked}
+use Rattle.host_acts.specs.Acts.{Updates, entry_after, given, makes_prefixes, or_directory, other_after, removes_below}
+use Rattle.host_acts.specs.Changes.{Becomes, IsNoDirectory, IsUnlinked, KeepsOthers, SetsDue, Stands, content_put, is_kept, text_of, unlinked}
 use Rattle.host_acts.specs.Steps.{fits_text}
 use Rattle.host_acts.specs.Tasks.{Task, Work, make_file, make_missing_file, remove_file, make_directory, remove_directory, make_link, remove_link, want_of}
 use Rattle.host_acts.specs.Wants.{Fits, IsWanted}
@@ -156,9 +156,9 @@ unlinks path to seen host is stands =
     becomes-as path None (unlinked (entry_of seen)) host (without path host) (sym (ap (λ (s : Seen). unlinked (entry_of s)) is))
     (becomes-none path host stands.whole (link_no_directory to (at host path) (stands.here ∙ ap entry_of is)))
 
-pub makes_absent : (path : List ℕ) (seen : Seen) (host : Entries) → seen ≡ Absent → Becomes path (directory_put (entry_of seen)) host (with_directory path host)
+pub makes_absent : (path : List ℕ) (seen : Seen) (host : Entries) → seen ≡ Absent → Becomes path (or_directory (entry_of seen)) host (with_directory path host)
 makes_absent path seen host is =
-    becomes-as path (Some (Directory 493)) (directory_put (entry_of seen)) host (with_directory path host) (sym (ap (λ (s : Seen). directory_put (entry_of s)) is)) (becomes-directory path host)
+    becomes-as path (Some (Directory 493)) (or_directory (entry_of seen)) host (with_directory path host) (sym (ap (λ (s : Seen). or_directory (entry_of s)) is)) (becomes-directory path host)
 
 pub sets_due : (path : List ℕ) (mode : ℕ) (due : Option ℕ) (host : Entries) → due ≡ Some mode → SetsDue path due host (with_mode path mode host)
 sets_due path mode due host is = subst (λ (d : Option ℕ). SetsDue path d host (with_mode path mode host)) (sym is) (sets-mode path mode host)

@@ -1,6 +1,6 @@
 -- What one act makes of a host.
 use Rattle.std.specs.Prelude.{◌≡◌, ◌≢◌, ℕ, Bool, true, false, not, ◌&&◌, ◌||◌, List, [], Option, Some, None, if◌then◌else◌}
-use Rattle.host_tree.specs.Entries.{Entries, at, has_below}
+use Rattle.host_tree.specs.Entries.{Entries, at, has_below, IsHost}
 use Rattle.host_tree.specs.Paths.{is_above}
 use Rattle.host_tree.specs.declared.entry.Entry.{Entry}
 use Rattle.host_tree.specs.declared.entry.Entry.TheVariants.{File, Directory, Link}
@@ -116,7 +116,24 @@ pub data HasCause (host : Entries) (task : Task) (cause : Cause) : Type 0 where
   here : ((prefix : List ℕ) → is_above prefix task.path ≡ true → cause_above task.work (at host prefix) ≡ None)
       → cause_here task.work (has_below host task.path) (at host task.path) ≡ Some cause → HasCause host task cause
 
--- what a task makes of another path than its own: it stays, or it is a missing prefix and becomes a directory of mode 0755, or it is below a directory that is removed and goes
+-- what stands there, and a new directory of mode 0755 where nothing does
+abbrev pub or_directory : Option Entry → Option Entry
+or_directory None = Some (Directory 493)
+or_directory (Some entry) = Some entry
+
+-- what stands at another path than the task's once it was done: nothing below a directory that it removes, a directory at each proper prefix that it makes, and else what stood there
+abbrev pub other_after : Task → Entries → List ℕ → Option Entry
+other_after task host path =
+    if removes_below task.work && is_above task.path path then None else (if makes_prefixes task.work && is_above path task.path then or_directory (at host path) else at host path)
+
+-- a task was done: what it wants holds, at its path stands what it makes, at each other path what is left there, and what is left is a host
+pub record Updates (task : Task) (host new : Entries) : Type 0 where
+  pub done : IsDone new task
+  pub here : at new task.path ≡ entry_after task.work (at host task.path)
+  pub elsewhere : (path : List ℕ) → path ≢ task.path → at new path ≡ other_after task host path
+  pub whole : IsHost new
+
+-- what a task that was done in part makes of another path than its own: it stays, or it is a missing prefix and becomes a directory of mode 0755, or it is below a directory that is removed and goes
 pub data Elsewhere (task : Task) (host new : Entries) (path : List ℕ) : Type 0 where
   stays : at new path ≡ at host path → Elsewhere task host new path
   made : is_above path task.path ≡ true → makes_prefixes task.work ≡ true → at host path ≡ None → at new path ≡ Some (Directory 493) → Elsewhere task host new path
@@ -125,12 +142,6 @@ pub data Elsewhere (task : Task) (host new : Entries) (path : List ℕ) : Type 0
 -- a task was done in part: the host differs from what it was at the task's path, at missing prefixes that became directories, and below a directory that it removes, at most
 abbrev pub IsPart : Task → Entries → Entries → Type 0
 IsPart task host new = (path : List ℕ) → path ≢ task.path → Elsewhere task host new path
-
--- a task was done: what it wants holds, at its path stands what it makes, and all else is as it was, but for missing prefixes and what is below a removed directory
-pub record Updates (task : Task) (host new : Entries) : Type 0 where
-  pub done : IsDone new task
-  pub here : at new task.path ≡ entry_after task.work (at host task.path)
-  pub elsewhere : IsPart task host new
 
 -- a task performed on a host comes to this verdict and leaves this host: up to date where what it wants holds, else failed with the first cause where there is one, else updated
 abbrev pub Act : Entries → Task → Verdict → Entries → Type 0

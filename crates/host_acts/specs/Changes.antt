@@ -1,12 +1,12 @@
 -- What the calls of one act make of a host, for the private clauses.
-use Rattle.std.specs.Prelude.{◌≡◌, ◌≢◌, ◌⊎◌, ℕ, ◌<◌, Bool, true, false, List, [], length, take, slice_index, Option, Some, None, option_map, if◌then◌else◌, ⊤}
+use Rattle.std.specs.Prelude.{◌≡◌, ◌≢◌, ◌⊎◌, ℕ, ◌<◌, Bool, true, false, List, [], length, take, slice_index, Option, Some, None, option_map, if◌then◌else◌, IsTrue, ⊤}
 use Rattle.host_tree.specs.Acts.{IsReached, entry_of, moded}
 use Rattle.host_tree.specs.Entries.{Entries, at, IsDirectory, IsHost}
-use Rattle.host_tree.specs.Paths.{is_above}
+use Rattle.host_tree.specs.Paths.{is_above, is_normal}
 use Rattle.host_tree.specs.declared.entry.Entry.{Entry}
 use Rattle.host_tree.specs.declared.entry.Entry.TheVariants.{File, Directory, Link}
 use Rattle.host_tree.specs.declared.seen.Seen.{Seen}
-use Rattle.host_acts.specs.Acts.{given}
+use Rattle.host_acts.specs.Acts.{given, or_directory}
 use Rattle.host_acts.specs.Steps.{fits_mode, fits_text}
 
 -- each path but this one has what it had
@@ -18,9 +18,10 @@ pub record Becomes (path : List ℕ) (entry : Option Entry) (host new : Entries)
   pub here : at new path ≡ entry
   pub others : KeepsOthers path host new
 
--- this was seen at a path that is reached
+-- this was seen at a path that is normal and reached
 pub record Stands (path : List ℕ) (seen : Seen) (host : Entries) : Type 0 where
   pub whole : IsHost host
+  pub normal : IsTrue (is_normal path)
   pub reached : IsReached host path
   pub here : at host path ≡ entry_of seen
 
@@ -70,11 +71,6 @@ content_put content (Some (File before mode)) = Some (File (given content before
 content_put content (Some (Directory mode)) = Some (File (given content []) 420)
 content_put content (Some (Link to)) = Some (File (given content []) 420)
 
--- a directory: the one that is there, else a new one of mode 0755
-abbrev pub directory_put : Option Entry → Option Entry
-directory_put None = Some (Directory 493)
-directory_put (Some entry) = Some entry
-
 -- the mode that is to be set: the one that is given, unless it is there
 abbrev pub mode_due : Option ℕ → Option Entry → Option ℕ
 mode_due mode None = mode
@@ -93,7 +89,7 @@ file_put content mode entry = option_map (with_due (mode_due mode entry)) (conte
 
 -- a directory with the mode that is given
 abbrev pub directory_with : Option ℕ → Option Entry → Option Entry
-directory_with mode entry = option_map (with_due (mode_due mode entry)) (directory_put entry)
+directory_with mode entry = option_map (with_due (mode_due mode entry)) (or_directory entry)
 
 -- what was seen stands at a path that is reached, but for a link, which was taken away
 pub record IsUnlinked (path : List ℕ) (entry : Option Entry) (host : Entries) : Type 0 where

@@ -1,11 +1,12 @@
 //! How an action of a resource is performed: a look, and then nothing, a failure with its first cause, or the change.
-ghost use Rattle.std.specs.Prelude.{◌≡◌, ◌<◌, IfOk, OnErr, is_some};
+ghost use Rattle.std.specs.Prelude.{◌≡◌, ◌<◌, IfOk, IsTrue, OnErr, is_some};
 ghost use Rattle.host_acts.specs.Acts as spec;
 ghost use Rattle.host_acts.specs.Scanning.{BreaksAt};
 ghost use Rattle.host_acts.specs.Tasks.{Offers, needs, needs_for, task, task_at};
 ghost use Rattle.host_acts.specs.Works.{work_in};
 ghost use Rattle.host_tree.specs.Acts.{IsReached};
 ghost use Rattle.host_tree.specs.Faults.{HasHostCause};
+ghost use Rattle.host_tree.specs.Paths.{is_normal};
 ghost use Rattle.host_tree.specs.Told.{Told, Tells};
 
 use crate::changes::change;
@@ -57,7 +58,8 @@ fn perform_at<H: Host>(
     work: &Work<'_>,
     host: &mut H,
 ) -> Result<Verdict, HostFault>
-    requires { Offers (H.offers host.old) (needs_for (work_in work.now)) }
+    requires normal { IsTrue (is_normal path.now) }
+    requires offered { Offers (H.offers host.old) (needs_for (work_in work.now)) }
     ensures act { IfOk result (λ verdict. Tells (spec.ActsTo (task_at path.now (work_in work.now)) verdict) (H.tells host.old) (H.tells host.new)) }
     ensures part { OnErr result (Tells (spec.IsPart (task_at path.now (work_in work.now))) (H.tells host.old) (H.tells host.new)) }
     ensures offers { H.offers host.new ≡ H.offers host.old }
@@ -76,6 +78,7 @@ fn perform_reached<H: Host>(
     work: &Work<'_>,
     host: &mut H,
 ) -> Result<Verdict, HostFault>
+    requires normal { IsTrue (is_normal path.now) }
     requires reached { Told (H.tells host.old) (λ h. IsReached h path.now) }
     requires offered { Offers (H.offers host.old) (needs_for (work_in work.now)) }
     ensures act { IfOk result (λ verdict. Tells (spec.ActsTo (task_at path.now (work_in work.now)) verdict) (H.tells host.old) (H.tells host.new)) }
@@ -102,6 +105,7 @@ fn perform_broken<H: Host>(
     found: Break,
     host: &mut H,
 ) -> Result<Verdict, HostFault>
+    requires normal { IsTrue (is_normal path.now) }
     requires broken { Told (H.tells host.old) (λ h. BreaksAt h path.now found) }
     requires first { 0 < found.end }
     requires offered { Offers (H.offers host.old) (needs_for (work_in work.now)) }

@@ -1,6 +1,6 @@
 //! How the change of an act is made at a path of which each proper prefix is a directory.
 ghost use Rattle.std.specs.Prelude.{◌≡◌, OnOk, OnErr, IsTrue, is_some, option_map, Some};
-ghost use Rattle.host_acts.specs.Acts.{IsPart, Updates, given};
+ghost use Rattle.host_acts.specs.Acts.{IsPart, Updates, or_directory};
 ghost use Rattle.host_acts.specs.Changes as spec;
 ghost use Rattle.host_acts.specs.Steps.{step_seen};
 ghost use Rattle.host_acts.specs.Tasks.{Offers, needs_for, task_at};
@@ -133,7 +133,7 @@ fn make_absent<H: Host>(
     host: &mut H,
 ) -> Result<(), HostFault>
     requires { Told (H.tells host.old) (spec.Stands path.now seen.now) }
-    ensures ok { OnOk result (Tells (spec.Becomes path.now (spec.directory_put (entry_of seen.now))) (H.tells host.old) (H.tells host.new)) }
+    ensures ok { OnOk result (Tells (spec.Becomes path.now (or_directory (entry_of seen.now))) (H.tells host.old) (H.tells host.new)) }
     ensures err { OnErr result (H.tells host.new ≡ H.tells host.old) }
     ensures offers { H.offers host.new ≡ H.offers host.old }
     ensures cause { HasHostCause (H.faults host.old) (H.faults host.new) result }

@@ -1,3 +1,4 @@
+//! The part of an ordered map that is below a path.
 ghost use Rattle.std.specs.Prelude.{◌≡◌, ◌<◌, ◌++◌, ◌∷◌, [], IfOk};
 
 use crate::paths::Path;

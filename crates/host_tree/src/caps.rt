@@ -1,3 +1,4 @@
+//! What a host offers.
 /// What a host offers besides files and directories.
 #[derive(Clone, Copy, Debug, PartialEq, Eq, Drop)]
 pub struct Caps {

@@ -1,3 +1,4 @@
+//! What stands at a path.
 use crate::modes::Mode;
 use doc_tree::Text;
 

@@ -1,3 +1,4 @@
+//! Which calls of a host in memory fail.
 ghost use Rattle.std.specs.Prelude.{◌≡◌, is_err, IfErr};
 ghost use Rattle.host_tree.specs.Failures.{planned, is_due, after_call};
 ghost use Rattle.host_tree.specs.Faults.{HasHostCause};

@@ -1,3 +1,4 @@
+//! Why a host gives no answer.
 ghost use Rattle.std.specs.Prelude.{◌≡◌};
 ghost use Rattle.host_tree.specs.declared.fault.HostFault.TheVariants as fault;
 

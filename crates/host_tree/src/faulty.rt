@@ -1,3 +1,4 @@
+//! A host in memory of which some calls fail.
 ghost use Rattle.std.specs.Prelude.{◌≡◌, ◌↔◌, IsTrue, IfOk, OnOk, OnErr, Some, Err};
 ghost use Rattle.host_tree.specs.Acts.{sight, CanWrite, CanMake, CanSetMode, CanRemove, with_file, with_directory, with_link, with_mode, without, LosesPart};
 ghost use Rattle.host_tree.specs.Entries.{at, has_below, IsHost};

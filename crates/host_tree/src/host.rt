@@ -1,3 +1,4 @@
+//! What a host is: the calls that look at it and change it.
 ghost use Rattle.std.specs.Prelude.{◌≡◌, ℕ, IsTrue, IfOk, OnOk, OnErr, option_map};
 ghost use Rattle.std.specs.declared.option.Option.{Option};
 ghost use Rattle.host_tree.specs.Acts.{sight, CanWrite, CanMake, CanSetMode, CanRemove, with_file, with_directory, with_link, with_mode, without, LosesPart};
@@ -18,8 +19,9 @@ use std::alloc::Global;
 /// memory, or another host with changes laid over it.
 ///
 /// A host tells what it holds throughout or never. A call changes nothing that is told but what is said of it, and
-/// counts its faults. [`HostFault::Failed`] comes only where the count of faults rose in the call. After a fault a host
-/// that tells holds what it held, but for [`Host::remove`].
+/// counts its faults. [`HostFault::Failed`] comes only where the count of faults rose in the call, and any other answer,
+/// want of memory too, leaves the count as it was. After a fault a host that tells holds what it held, but for
+/// [`Host::remove`].
 pub trait Host {
     /// What it holds, where it tells it.
     ghost tells: { Self → Option Entries };

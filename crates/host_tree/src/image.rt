@@ -1,3 +1,4 @@
+//! A host in memory.
 ghost use Rattle.std.specs.Prelude.{◌≡◌, ℕ, List, true, IsTrue, IfOk, OnOk, OnErr, Some, option_copied, option_map, cond};
 ghost use Rattle.std.specs.BTreeMap.{get, is_at};
 ghost use Rattle.std.specs.Cmp.Lexicographic.{slice_cmp};

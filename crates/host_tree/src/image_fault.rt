@@ -1,3 +1,4 @@
+//! Why an image is no host.
 ghost use Rattle.std.specs.Prelude.{◌≡◌};
 ghost use Rattle.host_tree.specs.declared.image_fault.ImageFault.TheVariants as fault;
 

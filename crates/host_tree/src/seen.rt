@@ -1,3 +1,4 @@
+//! What a look at a path sees.
 use crate::modes::Mode;
 use doc_tree::{Bytes, Text};
 
