@@ -47,7 +47,8 @@ IsListing None folder found = ⊤
 IsListing (Some files) folder None = (name : List ℕ) → is_below files folder name ≡ false
 IsListing (Some files) folder (Some names) = InOrder names × (names ≢ []) × ((name : List ℕ) → lists names name ≡ is_below files folder name)
 
--- the count of faults didn't fall, and the disk failed only where it rose
+-- the count of faults didn't fall, the disk failed only where it rose, and any other answer left it as it was
 pub record HasDiskCause {T : Type 0} (before now : ℕ) (result : Result T DiskFault) : Type 0 where
   pub later : before ≤ now
   pub failed : result ≡ Err Failed → Rose before now
+  pub unfailed : result ≢ Err Failed → now ≡ before

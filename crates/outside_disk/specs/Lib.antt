@@ -1,3 +1,4 @@
 pub mod Disk
+pub mod SystemErrors
 pub mod Listing
 pub mod MemoryDisk

@@ -1,3 +1,5 @@
+//! What a disk is, and what its calls promise.
+
 ghost use Rattle.std.specs.Prelude.{◌≡◌, ℕ, IfOk, OnOk, OnErr};
 ghost use Rattle.std.specs.declared.option.Option.{Option};
 ghost use Rattle.outside_core.specs.Failed.{HasCause};
@@ -19,7 +21,7 @@ pub trait Disk {
 
     /// The bytes of the file of this name, or `None` where no such file is there.
     ///
-    /// [`DiskFault::Failed`] comes only where the count of faults rose.
+    /// [`DiskFault::Failed`] comes only where the count of faults rose, and any other answer leaves the count.
     fn read(&mut self, alloc: Global, name: &Text) -> Result<Option<Bytes>, DiskFault>
         ensures file { IfOk result (IsFile (files self.old) name.now) }
         ensures kept { files self.new ≡ files self.old }
@@ -27,18 +29,20 @@ pub trait Disk {
 
     /// Writes a file, in place of one that has its name.
     ///
-    /// [`Failed`] has left that file with any bytes or none, and comes only where the count of faults rose.
+    /// [`Failed`] has left that file with any bytes or none, and comes only where the count of faults rose. A write that was
+    /// done leaves the count.
     fn write(&mut self, name: &Text, bytes: &[u8]) -> Result<(), Failed>
         ensures ok { OnOk result (Replaces name.now bytes.now (files self.old) (files self.new)) }
         ensures failed { OnErr result (Spoils name.now (files self.old) (files self.new)) }
-        ensures cause { HasCause (faults self.old) (faults self.new) result };
+        ensures cause { HasCause (faults self.old) (faults self.new) result }
+        ensures unfailed { OnOk result (faults self.new ≡ faults self.old) };
 
     /// The files below a folder, named from it, in the order of their bytes and each once: of the folder `a`, the file
     /// `a/b/c` is `b/c`. `None` where no such folder is there.
     ///
     /// Where files are told, a folder is there exactly where a file is below it, so what is listed is never empty. A name
     /// that ends in the slash behind the folder is that of no file below it. [`DiskFault::Failed`] comes only where the
-    /// count of faults rose.
+    /// count of faults rose, and any other answer leaves the count.
     fn list(&mut self, alloc: Global, folder: &Text) -> Result<Option<Texts>, DiskFault>
         ensures listing { IfOk result (IsListing (files self.old) folder.now) }
         ensures kept { files self.new ≡ files self.old }

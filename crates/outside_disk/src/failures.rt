@@ -1,4 +1,6 @@
-ghost use Rattle.std.specs.Prelude.{◌≡◌, ◌≤◌, is_err};
+//! Which calls of a disk in memory fail, and the count of those that did.
+
+ghost use Rattle.std.specs.Prelude.{◌≡◌, ◌≤◌, OnOk, is_err};
 ghost use Rattle.outside_core.specs.Failed.{HasCause, Rose};
 ghost use Rattle.outside_core.specs.Failures.{planned, is_due, after_call, after_fault};
 
@@ -38,6 +40,7 @@ impl Failures {
         ensures due { is_err result ≡ is_due self.old }
         ensures counted { self.new ≡ after_call self.old }
         ensures cause { HasCause self.old.faults self.new.faults result }
+        ensures unfailed { OnOk result (self.new.faults ≡ self.old.faults) }
     {
         self.calls = self.calls.saturating_add(1);
         if self.failing.contains(&self.calls) {

@@ -1,3 +1,5 @@
+//! Why a disk gives no answer.
+
 ghost use Rattle.std.specs.Prelude.{◌≡◌};
 ghost use Rattle.outside_disk.specs.declared.fault.DiskFault.TheVariants as fault;
 

@@ -1,6 +1,9 @@
-ghost use Rattle.std.specs.Prelude.{◌≡◌, None, IfOk, OnOk, OnErr, is_err, true};
-ghost use Rattle.outside_core.specs.Failed.{HasCause};
-ghost use Rattle.outside_disk.specs.Disk.{IsFile, Replaces, Spoils, IsListing, HasDiskCause};
+//! The disk over the operating system.
+
+ghost use Rattle.std.specs.Prelude.{◌≡◌, None, Ok, IfOk, IfErr};
+ghost use Rattle.std.specs.IoError.{error_kind};
+ghost use Rattle.outside_disk.specs.Disk.{HasDiskCause};
+ghost use Rattle.outside_disk.specs.SystemErrors.{IsToldAs};
 
 use crate::listing::in_order;
 use crate::walk::{files_below, is_absence};
@@ -8,12 +11,12 @@ use crate::{Disk, DiskFault};
 use doc_tree::{Bytes, Text, Texts};
 use outside_core::Failed;
 use std::alloc::Global;
-use std::fs;
 use std::io::ErrorKind;
 use std::rt::Files;
+use std::{fs, io};
 
 /// The files of the operating system, as named from the working folder. It tells none of them. Each call that the system
-/// refuses is counted; a file or folder that isn't there is no refusal.
+/// refuses is counted; that a file or folder isn't there, or that memory is wanting, is no refusal.
 ///
 /// A listing has the regular files alone, follows no link, and fails where a name isn't UTF-8.
 #[derive(Drop)]
@@ -30,16 +33,31 @@ impl<R: Files + AllocGlobal + Clone + Drop> FileDisk<R> {
         FileDisk { rt, faults: 0 }
     }
 
-    // Counts what the system refused. That it found no memory is no refusal.
-    fn refused<T>(&mut self, kind: ErrorKind) -> Result<T, DiskFault>
+    // What comes of an answer of the system: what it found, or what its error is told as.
+    fn told<T>(&mut self, answer: io::Result<Option<T>>) -> Result<Option<T>, DiskFault>
+        ensures found { IfOk answer (λ found. result ≡ Ok found) }
+        ensures error { IfErr answer (λ error. IsToldAs (error_kind error) result) }
         ensures cause { HasDiskCause self.old.faults self.new.faults result }
-        ensures refused { is_err result ≡ true }
     {
-        if kind != ErrorKind::OutOfMemory {
-            self.faults = self.faults.saturating_add(1);
-            return Err(DiskFault::Failed);
+        match answer {
+            Ok(found) => Ok(found),
+            Err(error) => self.told_error(error.kind()),
         }
-        Err(DiskFault::NoMemory)
+    }
+
+    // What an error of this kind is told as. Absence and want of memory aside, it is counted.
+    fn told_error<T>(&mut self, kind: ErrorKind) -> Result<Option<T>, DiskFault>
+        ensures error { IsToldAs kind result }
+        ensures cause { HasDiskCause self.old.faults self.new.faults result }
+    {
+        if is_absence(kind) {
+            return Ok(None);
+        }
+        if kind == ErrorKind::OutOfMemory {
+            return Err(DiskFault::NoMemory);
+        }
+        self.faults = self.faults.saturating_add(1);
+        Err(DiskFault::Failed)
     }
 }
 
@@ -49,11 +67,8 @@ impl<R: Files + AllocGlobal + Clone + Drop> Disk for FileDisk<R> {
     ghost faults = { λ d. d.faults };
 
     fn read(&mut self, _alloc: Global, name: &Text) -> Result<Option<Bytes>, DiskFault> {
-        match fs::read(&self.rt, name.as_str()) {
-            Ok(bytes) => Ok(Some(Bytes::of(bytes))),
-            Err(error) if is_absence(error.kind()) => Ok(None),
-            Err(error) => self.refused(error.kind()),
-        }
+        let found = fs::read(&self.rt, name.as_str()).map(|bytes| Some(Bytes::of(bytes)));
+        self.told(found)
     }
 
     fn write(&mut self, name: &Text, bytes: &[u8]) -> Result<(), Failed> {
@@ -65,10 +80,7 @@ impl<R: Files + AllocGlobal + Clone + Drop> Disk for FileDisk<R> {
     }
 
     fn list(&mut self, _alloc: Global, folder: &Text) -> Result<Option<Texts>, DiskFault> {
-        match files_below(&self.rt, folder.as_str()) {
-            Ok(Some(files)) => Ok(Some(in_order(files))),
-            Ok(None) => Ok(None),
-            Err(error) => self.refused(error.kind()),
-        }
+        let found = files_below(&self.rt, folder.as_str()).map(|files| files.map(in_order));
+        self.told(found)
     }
 }

@@ -1,4 +1,5 @@
 //! The files below a folder, found among all.
+
 ghost use Rattle.std.specs.Prelude.{◌≡◌, ◌≢◌, ◌||◌, [], List, ℕ, Some, false, bytes_eq, is_some, option_copied, IfOk, IfSome, IfNone, OnOk};
 ghost use Rattle.std.specs.Map.{lookup};
 ghost use Rattle.doc_tree.specs.Valid.{InOrder};

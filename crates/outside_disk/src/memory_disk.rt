@@ -1,3 +1,5 @@
+//! The disk in memory.
+
 ghost use Rattle.std.specs.Prelude.{◌≡◌, ◌-◌, ◌<◌, [], IfOk, OnOk, OnErr, Some, is_err, true, length, option_copied, bytes_eq};
 ghost use Rattle.std.specs.Map.{lookup};
 ghost use Rattle.indexmap.specs.IndexMap.{insert_entry};
@@ -101,6 +103,7 @@ impl Disk for MemDisk {
         ensures unchanged { OnErr result (self.new.entries ≡ self.old.entries) }
         ensures failed { OnErr result (Spoils name.now (Some (files_in self.old.entries)) (Some (files_in self.new.entries))) }
         ensures cause { HasCause self.old.failures.faults self.new.failures.faults result }
+        ensures unfailed { OnOk result (self.new.failures.faults ≡ self.old.failures.faults) }
         ensures beyond { self.old.room < length bytes.now → is_err result ≡ true }
     {
         self.failures.call()?;

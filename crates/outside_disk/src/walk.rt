@@ -1,4 +1,8 @@
 //! The files below a folder of the operating system.
+
+ghost use Rattle.std.specs.Prelude.{◌≡◌, ◌↔◌, true};
+ghost use Rattle.outside_disk.specs.SystemErrors.{IsAbsence};
+
 use doc_tree::Text;
 use std::alloc::{AllocError, Global};
 use std::io::ErrorKind;
@@ -31,7 +35,9 @@ pub(crate) fn files_below<R: Files + AllocGlobal + Clone + Drop>(
 }
 
 /// Whether an error says that a file or folder isn't there.
-pub(crate) fn is_absence(kind: ErrorKind) -> bool {
+pub(crate) fn is_absence(kind: ErrorKind) -> bool
+    ensures { (result ≡ true) ↔ IsAbsence kind }
+{
     matches!(kind, ErrorKind::NotFound | ErrorKind::NotADirectory)
 }
 

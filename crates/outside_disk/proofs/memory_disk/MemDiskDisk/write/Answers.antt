@@ -1,4 +1,4 @@
-use Rattle.std.proofs.Common.{true, ap, sym, ◌∙◌, bytes_eq, is_ok}
+use Rattle.std.proofs.Common.{ap, sym, ◌∙◌, bytes_eq}
 use Rattle.indexmap.specs.IndexMap.{insert_entry}
 use Rattle.outside_disk.specs.MemoryDisk.{HeldFiles}
 use Rattle.outside_disk.proofs.EntriesLemmas.{replaced, when_ok}
