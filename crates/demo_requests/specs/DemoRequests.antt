@@ -65,7 +65,6 @@ asks verb org route parameters body = record {
   api = Some 0;
   verb = verb;
   place = Of org route;
-  has_method = true;
   asked = parameters;
   body = body;
   close = false;

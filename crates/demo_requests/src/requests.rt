@@ -125,7 +125,6 @@ fn asks(caller: Text, verb: Verb, org: Text, route: Route, asked: Parameters, bo
         api: Some(0),
         verb,
         place: Place::Of { org, route },
-        has_method: true,
         asked,
         body,
         close: false,

@@ -8,7 +8,7 @@ use Rattle.route_table.specs.declared.paths.Path.{Path}
 use Rattle.route_table.specs.declared.paths.Path.TheVariants as path
 use Rattle.route_table.specs.declared.verbs.Verb.{Verb}
 use Rattle.route_table.specs.LeftOut.{is_left_out}
-use Rattle.route_table.specs.Table.{has_method, path_at}
+use Rattle.route_table.specs.Table.{path_at}
 use Rattle.route_table.specs.Verbs.{is_post}
 use Rattle.org_core.specs.declared.collections.Collection.TheVariants.{Nodes, Roles, Environments, Clients}
 use Rattle.org_core.specs.declared.requests.Body.{Body}
@@ -24,7 +24,6 @@ use Rattle.org_core.specs.declared.routes.Route.{Route}
 use Rattle.org_core.specs.declared.routes.Route.TheVariants.{Organisation, Objects, Data, Access, Cookbooks, Policies, Search}
 use Rattle.org_core.specs.declared.requests.Place.{Place}
 use Rattle.org_core.specs.declared.requests.Place.TheVariants.{Of, Organisations, LeftOut, NoRoute, NoMemory}
-use Rattle.http_routes.specs.declared.places.Aim.{Aim}
 
 -- the first of these segments, empty where there is none
 abbrev pub first_of : List (List ℕ) → List ℕ
@@ -97,20 +96,6 @@ place_found (Some p) segments = place_at p segments
 abbrev pub place_of : Option (List (List ℕ)) → Place
 place_of None = NoRoute
 place_of (Some segments) = cond (is_left_out segments) LeftOut (place_found (path_at segments) segments)
-
--- the path that was found, if one was, has the method
-abbrev pub has_method_found : Option Path → Verb → Bool
-has_method_found None verb = false
-has_method_found (Some p) verb = has_method p verb
-
--- the path that these segments name has the method
-abbrev pub has_method_of : Option (List (List ℕ)) → Verb → Bool
-has_method_of None verb = false
-has_method_of (Some segments) verb = cond (is_left_out segments) false (has_method_found (path_at segments) verb)
-
--- both
-abbrev pub aim_of : Option (List (List ℕ)) → Verb → Aim
-aim_of segments verb = record { place = place_of segments; has_method = has_method_of segments verb }
 
 -- an organisation's name
 abbrev pub organisation_name_from : Option Doc → Option (List ℕ)

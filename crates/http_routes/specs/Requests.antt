@@ -9,7 +9,7 @@ use Rattle.http_routes.specs.Connections.{closes}
 use Rattle.http_routes.specs.Targets.{target_segments}
 use Rattle.http_routes.specs.Bodies.{body_in}
 use Rattle.http_routes.specs.Parameters.{parameters_in}
-use Rattle.http_routes.specs.Places.{place_of, has_method_of, place_with}
+use Rattle.http_routes.specs.Places.{place_of, place_with}
 
 -- what a method, a target and the values of three headers say: a request without a body
 abbrev pub head_in : List ℕ → List ℕ → List (List ℕ) → List (List ℕ) → List (List ℕ) → Request
@@ -18,7 +18,6 @@ head_in method target callers versions connections = record {
   api = api_in versions;
   verb = verb_named method;
   place = place_of (target_segments target);
-  has_method = has_method_of (target_segments target) (verb_named method);
   asked = parameters_in target;
   body = Empty;
   close = closes connections;

@@ -1,7 +1,7 @@
 //! Where a path points, by its segments and the table of routes.
 ghost use Rattle.http_routes.specs.Places as spec;
 ghost use Rattle.http_routes.specs.Places.{nth_segment};
-ghost use Rattle.std.specs.Prelude.{◌≡◌, ℕ, List, IfOk, Some, false, option_copied};
+ghost use Rattle.std.specs.Prelude.{◌≡◌, ℕ, List, IfOk, Some, option_copied};
 ghost use Rattle.std.specs.Vec.Iter.{into_iter_items};
 
 use doc_tree::{NoMemory, Text, Texts, Tree, is_organisation_name};
@@ -13,53 +13,30 @@ use route_table::{Path, Routes, Verb, is_left_out};
 use std::alloc::Global;
 use std::vec::IntoIter;
 
-/// Where a request goes, as far as its head tells it, and whether its method is one of the path's.
-#[derive(Drop)]
-pub(crate) struct Aim {
-    /// The place.
-    pub(crate) place: Place,
-    /// Whether the path has the method in the table of routes.
-    pub(crate) has_method: bool,
-}
-
 /// The place that the segments of a path name, which are moved into it: the path of the table of
-/// routes, with the names in it; and whether the path has a method. A path that has no segments, `None`,
-/// has no route.
-pub(crate) fn aim_of(
+/// routes, with the names in it. A path that has no segments, `None`, has no route.
+pub(crate) fn place_of(
     alloc: Global,
     routes: &Routes,
     segments: Option<Texts>,
-    verb: Verb,
-) -> Result<Aim, NoMemory>
-    ensures { IfOk result (λ aim. aim ≡ spec.aim_of segments verb) }
+) -> Result<Place, NoMemory>
+    ensures { IfOk result (λ place. place ≡ spec.place_of segments) }
 {
     match segments {
-        Some(segments) => aim_in(alloc, routes, segments, verb),
-        None => Ok(off_the_table(Place::NoRoute)),
+        Some(segments) => place_in(alloc, routes, segments),
+        None => Ok(Place::NoRoute),
     }
 }
 
-fn aim_in(alloc: Global, routes: &Routes, segments: Texts, verb: Verb) -> Result<Aim, NoMemory>
-    ensures { IfOk result (λ aim. aim ≡ spec.aim_of (Some segments) verb) }
+fn place_in(alloc: Global, routes: &Routes, segments: Texts) -> Result<Place, NoMemory>
+    ensures { IfOk result (λ place. place ≡ spec.place_of (Some segments)) }
 {
     if is_left_out(segments.as_slice()) {
-        return Ok(off_the_table(Place::LeftOut));
+        return Ok(Place::LeftOut);
     }
     match routes.find(alloc, segments.as_slice())? {
-        Some(found) => Ok(Aim {
-            place: place_at(alloc, found.path(), segments),
-            has_method: found.has_method(verb),
-        }),
-        None => Ok(off_the_table(Place::NoRoute)),
-    }
-}
-
-fn off_the_table(place: Place) -> Aim
-    ensures { result ≡ record { place = place; has_method = false } }
-{
-    Aim {
-        place,
-        has_method: false,
+        Some(path) => Ok(place_at(alloc, path, segments)),
+        None => Ok(Place::NoRoute),
     }
 }
 

@@ -8,7 +8,7 @@ ghost use Rattle.std.specs.Prelude.{◌≡◌, ℕ, List, IfOk};
 use crate::bodies::{BodyForm, form_in};
 use crate::headers::{HeaderValue, api_of, caller_of};
 use crate::parameters::parameters_of;
-use crate::places::{aim_of, place_with};
+use crate::places::{place_of, place_with};
 use crate::targets::segments_of;
 use crate::verbs::verb_of;
 use doc_tree::NoMemory;
@@ -43,14 +43,13 @@ impl Head {
         let verb = verb_of(method);
         let caller = caller_of(alloc, caller)?;
         let asked = parameters_of(alloc, target)?;
-        let aim = aim_of(alloc, routes, segments_of(alloc, target)?, verb)?;
+        let place = place_of(alloc, routes, segments_of(alloc, target)?)?;
         Ok(Head {
             request: Request {
                 caller,
                 api: api_of(version),
                 verb,
-                place: aim.place,
-                has_method: aim.has_method,
+                place,
                 asked,
                 body: Body::Empty,
                 close,
@@ -81,7 +80,6 @@ fn with_body(alloc: Global, head: Request, body: Body) -> Result<Request, NoMemo
         api,
         verb,
         place,
-        has_method,
         asked,
         body: _,
         close,
@@ -91,7 +89,6 @@ fn with_body(alloc: Global, head: Request, body: Body) -> Result<Request, NoMemo
         api,
         verb,
         place: place_with(alloc, place, verb, &body)?,
-        has_method,
         asked,
         body,
         close,

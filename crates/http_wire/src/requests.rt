@@ -191,7 +191,6 @@ fn lost(alloc: Global) -> Request
         api: None,
         verb: Verb::Other,
         place: Place::NoMemory,
-        has_method: false,
         asked: Parameters::new(alloc),
         body: Body::Empty,
         close: false,

@@ -1,15 +1,15 @@
 -- When a finder is exact for the objects of an organisation.
-use Rattle.std.specs.Prelude.{◌≡◌, ℕ, false, true, List, Option, Some, None, bytes_eq, is_some}
+use Rattle.std.specs.Prelude.{◌≡◌, ℕ, false, List, Option, Some, None, bytes_eq, is_some}
 use Rattle.object_store.specs.Objects.{Objects}
 use Rattle.search_query.specs.Pair.{Pair, lists}
 use Rattle.object_finder.specs.Held.{Held}
-use Rattle.object_finder.specs.Indexes.{is_plain, found_by, pairs_by}
+use Rattle.object_finder.specs.Indexes.{found_by, pairs_by}
 
--- it holds under the organisation's name, for each index and object, the object's pairs and no others. Items of a bag that
--- is named like one of the four indexes are in no index
+-- it holds under the organisation's name, for each index and object, the object's pairs and no others, and nothing under
+-- any word that has no index. Items of a bag that is named like one of the four indexes are in no index
 pub record HoldsExactly (held : Held) (org : List ℕ) (objects : Objects) : Type 0 where
-  pub there : (index name : List ℕ) → is_plain index ≡ true → held.has_object org index name ≡ is_some (found_by index name objects)
-  pub pairs : (index name : List ℕ) (pair : Pair) → is_plain index ≡ true → held.has_pair org index name pair ≡ lists (pairs_by index name objects) pair
+  pub there : (word name : List ℕ) → held.has_object org word name ≡ is_some (found_by word name objects)
+  pub pairs : (word name : List ℕ) (pair : Pair) → held.has_pair org word name pair ≡ lists (pairs_by word name objects) pair
 
 -- a finder that holds nothing at all, and looks at the objects, is exact for all
 abbrev pub IsExact : Option Held → List ℕ → Objects → Type 0

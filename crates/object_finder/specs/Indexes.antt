@@ -1,5 +1,5 @@
 -- Indexes by their words: those of the four kinds, and of each data bag its name.
-use Rattle.std.specs.Prelude.{ℕ, Bool, not, cond, List, [], Option, option_map, unwrap_or, bytes_eq, codes}
+use Rattle.std.specs.Prelude.{ℕ, Bool, not, cond, List, [], Option, None, option_map, unwrap_or, bytes_eq, codes}
 use Rattle.doc_tree.specs.Doc.{Doc}
 use Rattle.object_store.specs.Objects.{Objects}
 use Rattle.object_store.specs.Shelving.{has_slash}
@@ -22,9 +22,9 @@ index_of word =
 abbrev pub is_plain : List ℕ → Bool
 is_plain word = not (has_slash word)
 
--- the object of this name in the index of this word
+-- the object of this name in the index of this word. A word with a slash has no index, so nothing is found by it
 abbrev pub found_by : List ℕ → List ℕ → Objects → Option Doc
-found_by word name objects = object_at (index_of word) objects name
+found_by word name objects = cond (is_plain word) (object_at (index_of word) objects name) None
 
 -- its pairs, of which one that isn't there has none
 abbrev pub pairs_by : List ℕ → List ℕ → Objects → List Pair

@@ -1,4 +1,5 @@
 pub mod Requests
+pub mod Paths
 pub mod Collections
 pub mod Replies
 pub mod Refusals

@@ -14,6 +14,7 @@ mod moves;
 mod needs;
 mod org_state;
 mod parameters;
+mod paths;
 mod refusals;
 mod replies;
 mod requests;

@@ -9,7 +9,7 @@ ghost use Rattle.doc_tree.specs.declared.kind.Kind.TheVariants as kinds;
 ghost use Rattle.org_core.specs.Conditions.{MeetsConditions};
 ghost use Rattle.std.specs.FinMap as finite;
 ghost use Rattle.access_lists.specs.Changes.{with_client, with_groups, with_user, without_client, without_user};
-ghost use Rattle.org_core.specs.States.{state_in, state_from, cookbooks_of, shelved_of, objects_of, object_in, has_object, list_in, membership_of, room_for, IsNobody};
+ghost use Rattle.org_core.specs.States.{state_in, state_from, cookbooks_of, shelved_of, objects_of, lists_of, object_in, has_object, list_in, membership_of, room_for, IsNobody};
 ghost use Rattle.org_core.specs.FileMoves.{files_after, files_after_move, files_put_in as spec_files_put_in, takes_file_room, takes_shelf_room, shelved_by as spec_shelved_by};
 ghost use Rattle.org_core.specs.Rooms.{HasRoom};
 ghost use Rattle.shelves.specs.Shelves.{shelves_of};
@@ -88,9 +88,11 @@ impl OrgState {
         self.there
     }
 
-    /// The objects of the organisation, of which one that isn't there has none. It takes no memory.
+    /// The objects of the organisation with their access lists, of which one that isn't there has none. It takes no
+    /// memory.
     pub fn objects(&self) -> &Objects
-        ensures { result.now.objects ≡ objects_of (state_in self.now) }
+        ensures objects { result.now.objects ≡ objects_of (state_in self.now) }
+        ensures lists { result.now.lists ≡ lists_of (state_in self.now) }
     {
         &self.objects
     }

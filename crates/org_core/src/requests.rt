@@ -2,10 +2,11 @@
 
 ghost use Rattle.std.specs.Prelude.{◌≡◌};
 ghost use Rattle.org_core.specs.Bodies as bodies;
+ghost use Rattle.org_core.specs.Paths as paths;
 
 use crate::routes::Route;
 use doc_tree::{Listed, Text, Tree};
-use route_table::Verb;
+use route_table::{Path, Verb, has_method};
 use sandboxes::Hashed;
 
 /// Where a request goes.
@@ -27,6 +28,19 @@ pub enum Place {
     NoRoute,
     /// The parts of the request found no memory. Such a request is of no organisation.
     NoMemory,
+}
+
+impl Place {
+    /// Whether the table of routes has this method here. What no path of the table leads to has none.
+    pub fn has_method(&self, verb: Verb) -> bool
+        ensures { result ≡ paths.has_method_at self.now verb }
+    {
+        match self {
+            Place::Of { org: _, route } => has_method(route.path(), verb),
+            Place::Organisations => has_method(Path::Organisations, verb),
+            Place::LeftOut | Place::NoRoute | Place::NoMemory => false,
+        }
+    }
 }
 
 /// A parameter of a request's query, form-decoded.
@@ -90,9 +104,6 @@ pub struct Request {
     pub verb: Verb,
     /// Of what it is asked.
     pub place: Place,
-    /// Whether the path has the method in the table of routes. A path that the table hasn't has none, and nothing
-    /// looks at it.
-    pub has_method: bool,
     /// The parameters of the query. One that stands twice counts by its first.
     pub asked: Parameters,
     /// What comes with it.

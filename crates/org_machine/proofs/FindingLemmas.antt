@@ -1,5 +1,5 @@
 -- A finder that is exact for a state, and is told of the moves, is exact for the state that they lead to.
-use Rattle.std.proofs.Common.{◌≡◌, ◌∙◌, ◌&&◌, ◌||◌, ℕ, Bool, true, false, not, cond, List, [], ◌∷◌, ◌++◌, Option, Some, None, bytes_eq, codes, is_some, option_map, unwrap_or, ap, arith, refl, subst, sym}
+use Rattle.std.proofs.Common.{◌≡◌, ◌∙◌, ◌&&◌, ◌||◌, ℕ, Bool, true, false, not, cond, List, [], ◌∷◌, ◌++◌, Option, Some, None, bytes_eq, codes, is_some, option_map, unwrap_or, ap, arith, inl, inr, refl, subst, sym}
 use Rattle.std.specs.Cmp.Lexicographic.{bytes_decides}
 use Rattle.std.specs.FinMap as finite
 use Rattle.std.specs.List.{before_first, after_first}
@@ -13,7 +13,7 @@ use Rattle.object_finder.specs.Changes.{HasRoomFor, after_change, after_changes}
 use Rattle.object_finder.specs.Exact.{HoldsExactly, HoldsOthers, IsExact, OthersStay}
 use Rattle.object_finder.specs.Held.{Held, Room}
 use Rattle.object_finder.specs.Indexes.{found_by, index_of, is_plain, pairs_by}
-use Rattle.object_store.proofs.ShelvingLemmas.{bag-before, id-behind, name-whole, slash-inside}
+use Rattle.object_store.proofs.ShelvingLemmas.{bag-before, front-bare, id-behind, name-whole, slash-inside}
 use Rattle.object_store.specs.Items.{item_name}
 use Rattle.object_store.specs.Keys.{key_cmp, key_cmp_total}
 use Rattle.object_store.specs.Objects.{Objects, key}
@@ -28,7 +28,9 @@ use Rattle.org_core.proofs.ObjectConditionsLemmas.{same_keys, ties_itself}
 use Rattle.org_core.specs.Moves.{after_move, after_moves, opens, outside, within}
 use Rattle.org_core.specs.States.{Organisation, State, objects_of}
 use Rattle.org_core.specs.declared.moves.Move.{Move}
+use Rattle.org_core.specs.declared.replies.Reply.{Reply}
 use Rattle.org_core.specs.declared.moves.Move.TheVariants.{Open, Put, TakeOut, PutList, TakeList, AddUser, RemoveUser, AddClient, RemoveClient, PutGroup, RemoveGroup, OnShelves, OnFiles}
+use Rattle.org_machine.specs.Serving.{ComesWith, IsGood}
 use Rattle.org_machine.specs.Finding.{AreChanges, Entry, change_of, changed_at, changes_by, changes_of, entry_at, entry_of, in_order, is_kinds, item_entry, listed}
 use Rattle.org_machine.proofs.PairOrderLemmas.{lists-in_order}
 
@@ -145,6 +147,36 @@ found_is Acl name here other is = no is
 found_is Sandbox name here other is = no is
 found_is File name here other is = no is
 
+-- what is found anywhere is found by a word without a slash
+kind_plain : (own here name other : List ℕ) → is_plain own ≡ true → hits (Some (own, name)) here other ≡ true → is_plain here ≡ true
+kind_plain own here name other plain is = ap is_plain (sym (same_text own here (both (bytes_eq own here) (bytes_eq name other) is).0)) ∙ plain
+
+item_plain : (name here other : List ℕ) (found : Bool) → hits (cond found (Some (before_first is_slash name, after_first is_slash name)) None) here other ≡ true → is_plain here ≡ true
+item_plain name here other true is = kind_plain (before_first is_slash name) here (after_first is_slash name) other (ap not (front-bare name)) is
+item_plain name here other false is = no is
+
+entry_plain : (kind : Kind) (name here other : List ℕ) → hits (entry_at kind name) here other ≡ true → is_plain here ≡ true
+entry_plain Org name here other is = no is
+entry_plain Node name here other is = kind_plain (codes "node") here name other refl is
+entry_plain Role name here other is = kind_plain (codes "role") here name other refl is
+entry_plain Environment name here other is = kind_plain (codes "environment") here name other refl is
+entry_plain Bags name here other is = no is
+entry_plain Client name here other is = kind_plain (codes "client") here name other refl is
+entry_plain User name here other is = no is
+entry_plain Group name here other is = no is
+entry_plain Container name here other is = no is
+entry_plain Item name here other is = item_plain name here other (has_slash name && not (is_kinds (before_first is_slash name))) is
+entry_plain Cookbook name here other is = no is
+entry_plain Artifact name here other is = no is
+entry_plain Policy name here other is = no is
+entry_plain PolicyGroup name here other is = no is
+entry_plain Acl name here other is = no is
+entry_plain Sandbox name here other is = no is
+entry_plain File name here other is = no is
+
+key_plain : (k : Key) (word name : List ℕ) → hits (entry_of k) word name ≡ true → is_plain word ≡ true
+key_plain k word name is = entry_plain k.kind k.name word name is
+
 -- so the key of a word and a name is the one that is found there
 key_hits : (k : Key) (word name : List ℕ) → is_plain word ≡ true → eq_by_cmp key_cmp (key_in (index_of word) name) k ≡ hits (entry_of k) word name
 key_hits k word name plain =
@@ -230,23 +262,38 @@ pairs_then : (b : Bool) (kind own : Kind) (object : Doc) (found : Option Doc) (p
 pairs_then true kind own object found p same = ap (λ (k : Kind). lists (pairs_of k object) p) (sym (same refl))
 pairs_then false kind own object found p same = refl
 
+-- what is found by a word that may have no index: a test `here` that the word and name are those of the key, and `hit` that
+-- the object of the key is found by them, are one where it has, and where it hasn't nothing is found
+there_put : (plain hit here : Bool) (object : Doc) (found : Option Doc) → (plain ≡ true → here ≡ hit) → (hit ≡ true → plain ≡ true)
+    → cond hit true (is_some (cond plain found None)) ≡ is_some (cond plain (cond here (Some object) found) None)
+there_put true hit here object found same only = ap (λ b. cond b true (is_some found)) (sym (same refl)) ∙ there_then here object found
+there_put false true here object found same only = no (only refl)
+there_put false false here object found same only = refl
+
+pairs_put : (plain hit here : Bool) (kind own : Kind) (object : Doc) (found : Option Doc) (p : Pair) → (plain ≡ true → here ≡ hit) → (hit ≡ true → plain ≡ true) → (here ≡ true → kind ≡ own)
+    → cond hit (lists (pairs_of own object) p) (lists (pairs_found kind (cond plain found None)) p) ≡ lists (pairs_found kind (cond plain (cond here (Some object) found) None)) p
+pairs_put true hit here kind own object found p same only kinds =
+    ap (λ b. cond b (lists (pairs_of own object) p) (lists (pairs_found kind found) p)) (sym (same refl)) ∙ pairs_then here kind own object found p kinds
+pairs_put false true here kind own object found p same only kinds = no (only refl)
+pairs_put false false here kind own object found p same only kinds = refl
+
 put_exact : (org : List ℕ) (held : Held) (objects : Objects) (k : Key) (object : Doc) → HoldsExactly held org objects
     → HoldsExactly (after_one (option_map (changed_at org (Some (in_order (pairs_of k.kind object)))) (entry_of k)) held) org (finite.insert objects k object)
 put_exact org held objects k object exact = record {
-  there = λ word name plain.
+  there = λ word name.
       let q = key_in (index_of word) name in
       has_come org word name held (in_order (pairs_of k.kind object)) (entry_of k)
-      ∙ (λ i. cond (sym (key_hits k word name plain) i) true (exact.there word name plain i))
-      ∙ there_then (eq_by_cmp key_cmp q k) object (finite.get objects q)
-      ∙ ap is_some (sym (get-put objects k object q));
-  pairs = λ word name p plain.
+      ∙ ap (cond (hits (entry_of k) word name) true) (exact.there word name)
+      ∙ there_put (is_plain word) (hits (entry_of k) word name) (eq_by_cmp key_cmp q k) object (finite.get objects q) (key_hits k word name) (key_plain k word name)
+      ∙ ap (λ found. is_some (cond (is_plain word) found None)) (sym (get-put objects k object q));
+  pairs = λ word name p.
       let q = key_in (index_of word) name in
       pair_has_come org word name held (in_order (pairs_of k.kind object)) (entry_of k) p
       ∙ ap (λ b. cond (hits (entry_of k) word name) b (held.has_pair org word name p)) (lists-in_order (pairs_of k.kind object) p)
-      ∙ (λ i. cond (sym (key_hits k word name plain) i) (lists (pairs_of k.kind object) p) (exact.pairs word name p plain i))
-      ∙ pairs_then (eq_by_cmp key_cmp q k) (kind_of (index_of word)) k.kind object (finite.get objects q) p
+      ∙ ap (cond (hits (entry_of k) word name) (lists (pairs_of k.kind object) p)) (exact.pairs word name p)
+      ∙ pairs_put (is_plain word) (hits (entry_of k) word name) (eq_by_cmp key_cmp q k) (kind_of (index_of word)) k.kind object (finite.get objects q) p (key_hits k word name) (key_plain k word name)
       (λ same. key_kind (index_of word) name ∙ ap (λ (x : Key). x.kind) (same_keys q k same))
-      ∙ ap (λ found. lists (pairs_found (kind_of (index_of word)) found) p) (sym (get-put objects k object q));
+      ∙ ap (λ found. lists (pairs_found (kind_of (index_of word)) (cond (is_plain word) found None)) p) (sym (get-put objects k object q));
 }
 
 -- ---- an object is taken out
@@ -259,21 +306,33 @@ pairs_gone : (b : Bool) (kind : Kind) (found : Option Doc) (p : Pair) → cond b
 pairs_gone true kind found p = refl
 pairs_gone false kind found p = refl
 
+there_taken : (plain hit here : Bool) (found : Option Doc) → (plain ≡ true → here ≡ hit) → (hit ≡ true → plain ≡ true)
+    → cond hit false (is_some (cond plain found None)) ≡ is_some (cond plain (cond here None found) None)
+there_taken true hit here found same only = ap (λ b. cond b false (is_some found)) (sym (same refl)) ∙ gone_then here found
+there_taken false true here found same only = no (only refl)
+there_taken false false here found same only = refl
+
+pairs_taken : (plain hit here : Bool) (kind : Kind) (found : Option Doc) (p : Pair) → (plain ≡ true → here ≡ hit) → (hit ≡ true → plain ≡ true)
+    → cond hit false (lists (pairs_found kind (cond plain found None)) p) ≡ lists (pairs_found kind (cond plain (cond here None found) None)) p
+pairs_taken true hit here kind found p same only = ap (λ b. cond b false (lists (pairs_found kind found) p)) (sym (same refl)) ∙ pairs_gone here kind found p
+pairs_taken false true here kind found p same only = no (only refl)
+pairs_taken false false here kind found p same only = refl
+
 take_exact : (org : List ℕ) (held : Held) (objects : Objects) (k : Key) → HoldsExactly held org objects
     → HoldsExactly (after_one (option_map (changed_at org None) (entry_of k)) held) org (finite.remove objects k)
 take_exact org held objects k exact = record {
-  there = λ word name plain.
+  there = λ word name.
       let q = key_in (index_of word) name in
       has_gone org word name held (entry_of k)
-      ∙ (λ i. cond (sym (key_hits k word name plain) i) false (exact.there word name plain i))
-      ∙ gone_then (eq_by_cmp key_cmp q k) (finite.get objects q)
-      ∙ ap is_some (sym (get-left objects k q));
-  pairs = λ word name p plain.
+      ∙ ap (cond (hits (entry_of k) word name) false) (exact.there word name)
+      ∙ there_taken (is_plain word) (hits (entry_of k) word name) (eq_by_cmp key_cmp q k) (finite.get objects q) (key_hits k word name) (key_plain k word name)
+      ∙ ap (λ found. is_some (cond (is_plain word) found None)) (sym (get-left objects k q));
+  pairs = λ word name p.
       let q = key_in (index_of word) name in
       pair_has_gone org word name held (entry_of k) p
-      ∙ (λ i. cond (sym (key_hits k word name plain) i) false (exact.pairs word name p plain i))
-      ∙ pairs_gone (eq_by_cmp key_cmp q k) (kind_of (index_of word)) (finite.get objects q) p
-      ∙ ap (λ found. lists (pairs_found (kind_of (index_of word)) found) p) (sym (get-left objects k q));
+      ∙ ap (cond (hits (entry_of k) word name) false) (exact.pairs word name p)
+      ∙ pairs_taken (is_plain word) (hits (entry_of k) word name) (eq_by_cmp key_cmp q k) (kind_of (index_of word)) (finite.get objects q) p (key_hits k word name) (key_plain k word name)
+      ∙ ap (λ found. lists (pairs_found (kind_of (index_of word)) (cond (is_plain word) found None)) p) (sym (get-left objects k q));
 }
 
 -- ---- moves
@@ -399,6 +458,18 @@ others_after org old now then is stays = subst (HoldsOthers org old) (sym is) st
 
 none_by : (org : List ℕ) (there : Bool) → changes_by org there [] ≡ []
 none_by org there = refl
+
+none_change : (changes : List Change) (held : Held) → changes ≡ [] → after_changes changes held ≡ held
+none_change changes held none = ap (λ cs. after_changes cs held) none
+
+-- where the reply is a refusal there is no move
+pub refused_moves : (reply due : Reply) (moves : List Move) → reply ≡ due → ComesWith due.status moves → ¬ (IsGood reply.status) → moves ≡ []
+refused_moves reply due moves same comes refused = elim comes [ inl none ↦ none | inr good ↦ absurd (refused (subst (λ (r : Reply). IsGood r.status) (sym same) good)) ]
+
+-- so what is held stays
+pub held_stays : (held : Option Held) (org : List ℕ) (there : Bool) (moves : List Move) (changes : List Change) → moves ≡ [] → AreChanges held org there moves changes → option_map (after_changes changes) held ≡ held
+held_stays None org there moves changes no_moves are = refl
+held_stays (Some held) org there moves changes no_moves are = ap (λ h. Some h) (none_change changes held (are ∙ ap (changes_by org there) no_moves ∙ none_by org there))
 
 -- no change is due, and none needs room
 pub no_changes : (held : Option Held) (org : List ℕ) (there : Bool) (moves : List Move) (changes : List Change) → moves ≡ [] → changes ≡ [] → AreChanges held org there moves changes

@@ -253,7 +253,7 @@ head_plain request =
     (first_plain _ _ (refuses_plain VersionNotTaken (not (is_taken request.api)) tt)
     (first_plain _ _ (refuses_plain NotImplemented (is_left_out request.place) tt)
     (first_plain _ _ (refuses_plain NotFound (is_no_route request.place) tt)
-    (first_plain _ _ (refuses_plain NotAllowed (lacks_method request.place request.has_method) tt) tt))))
+    (first_plain _ _ (refuses_plain NotAllowed (lacks_method request.place request.verb) tt) tt))))
 
 -- ---- at a place
 

@@ -6,7 +6,9 @@ use Rattle.org_core.specs.declared.requests.Place.{Place}
 use Rattle.org_core.specs.declared.requests.Place.TheVariants.{Of, Organisations, LeftOut, NoRoute, NoMemory}
 use Rattle.org_core.specs.declared.requests.Request.{Request}
 use Rattle.org_core.specs.Bodies.{is_too_long}
+use Rattle.org_core.specs.Paths.{has_method_at}
 use Rattle.org_core.specs.Refusals.{refuses, first_some}
+use Rattle.route_table.specs.declared.verbs.Verb.{Verb}
 
 -- the version of the API is 0 or 1
 abbrev pub is_taken : Option ℕ → Bool
@@ -30,12 +32,12 @@ is_no_route NoRoute = true
 is_no_route NoMemory = false
 
 -- a route has the path, and not the method
-abbrev pub lacks_method : Place → Bool → Bool
-lacks_method (Of org route) has = not has
-lacks_method Organisations has = not has
-lacks_method LeftOut has = false
-lacks_method NoRoute has = false
-lacks_method NoMemory has = false
+abbrev pub lacks_method : Place → Verb → Bool
+lacks_method (Of org route) verb = not (has_method_at (Of org route) verb)
+lacks_method Organisations verb = not (has_method_at Organisations verb)
+lacks_method LeftOut verb = false
+lacks_method NoRoute verb = false
+lacks_method NoMemory verb = false
 
 -- in this order
 abbrev pub head_refusals : Request → List (Option Refusal)
@@ -44,7 +46,7 @@ head_refusals request =
     ∷ refuses VersionNotTaken (not (is_taken request.api))
     ∷ refuses NotImplemented (is_left_out request.place)
     ∷ refuses NotFound (is_no_route request.place)
-    ∷ refuses NotAllowed (lacks_method request.place request.has_method)
+    ∷ refuses NotAllowed (lacks_method request.place request.verb)
     ∷ []
 
 -- the first that stands

@@ -4,6 +4,7 @@ ghost use Rattle.std.specs.Prelude.{◌≡◌};
 ghost use Rattle.org_machine.specs.Heads as spec;
 
 use org_core::{Place, Refusal, Request};
+use route_table::Verb;
 
 /// The first refusal of a request that its head alone gives, and a body that is too long: 413, 406, 501,
 /// 404 where no route has the path, and 405, in this order. Nothing else of the body is looked at, and
@@ -23,7 +24,7 @@ pub fn head_refusal(request: &Request) -> Option<Refusal>
     if is_no_route(&request.place) {
         return Some(Refusal::NotFound);
     }
-    if lacks_method(&request.place, request.has_method) {
+    if lacks_method(&request.place, request.verb) {
         return Some(Refusal::NotAllowed);
     }
     None
@@ -52,11 +53,11 @@ fn is_no_route(place: &Place) -> bool
 }
 
 /// Whether the table has the path, and not the method.
-fn lacks_method(place: &Place, has_method: bool) -> bool
-    ensures { result ≡ spec.lacks_method place.now has_method }
+fn lacks_method(place: &Place, verb: Verb) -> bool
+    ensures { result ≡ spec.lacks_method place.now verb }
 {
     match place {
-        Place::Of { org: _, route: _ } | Place::Organisations => !has_method,
+        Place::Of { org: _, route: _ } | Place::Organisations => !place.has_method(verb),
         Place::LeftOut | Place::NoRoute | Place::NoMemory => false,
     }
 }

@@ -1,8 +1,8 @@
 //! Serving one request on one organisation: `prepare` finds the reply and takes all the memory that
 //! the moves need, and `settle` makes the moves, which can't fail.
 
-ghost use Rattle.std.specs.Prelude.{◌≡◌, ◌⊎◌, [], IfOk, OnOk, Some, is_some};
-ghost use Rattle.object_finder.specs.Changes.{HasRoomFor};
+ghost use Rattle.std.specs.Prelude.{◌≡◌, ◌⊎◌, [], IfOk, OnOk, Some, is_some, option_map};
+ghost use Rattle.object_finder.specs.Changes.{HasRoomFor, after_changes};
 ghost use Rattle.object_finder.specs.Exact.{HoldsOthers, IsExact};
 ghost use Rattle.org_core.specs.Conditions.{MeetsConditions};
 ghost use Rattle.org_core.specs.FileMoves.{after_all};
@@ -265,6 +265,7 @@ pub fn settle<F: Finder>(
     ensures state { full_in state.new files.new ≡ after_all state.old.name ready.moves (full_in state.old files.old) }
     ensures files { MeetsFileConditions (full_in state.new files.new) }
     ensures others { OthersStay state.old.name files.old files.new }
+    ensures held { F.held finder.new ≡ option_map (after_changes ready.changes) (F.held finder.old) }
     ensures exact { IsExact (F.held finder.new) state.new.name (objects_of (state_in state.new)) }
     ensures held_of_others { HoldsOthers state.old.name (F.held finder.old) (F.held finder.new) }
     ensures finder_looks { F.looks finder.new ≡ F.looks finder.old }
@@ -280,8 +281,8 @@ pub fn settle<F: Finder>(
 }
 
 /// Serves one request: `prepare` with this hint, and `settle`. A reply other than 200 and 201 leaves state and
-/// files as they were, and each leaves the files of every other organisation. The finder is exact for the state
-/// afterwards, too, and holds of every other organisation what it held.
+/// files as they were, and what the finder holds; and each leaves the files of every other organisation. The finder is
+/// exact for the state afterwards, too, and holds of every other organisation what it held.
 pub fn serve<F: Finder, L: Ledger>(
     alloc: Global,
     state: &mut OrgState,
@@ -301,6 +302,7 @@ pub fn serve<F: Finder, L: Ledger>(
     ensures files { MeetsFileConditions (full_in state.new files.new) }
     ensures others { OthersStay state.old.name files.old files.new }
     ensures stays { ¬ (IsGood result.status) → full_in state.new files.new ≡ full_in state.old files.old }
+    ensures held { ¬ (IsGood result.status) → F.held finder.new ≡ F.held finder.old }
     // 403 exactly where nothing before refuses, and a permission that is needed isn't permitted.
     ensures permitted { IsPermittedExactly request.now result (full_in state.old files.old) }
     ensures exact { IsExact (F.held finder.new) state.new.name (objects_of (state_in state.new)) }

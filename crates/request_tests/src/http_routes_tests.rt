@@ -206,7 +206,13 @@ fn add_words(told: &mut String, words: &[&str]) -> Result<(), NoMemory> {
 fn add_request(told: &mut String, request: &Request) -> Result<(), NoMemory> {
     let (org, (word, first, second, third)) = place(&request.place);
     add_words(told, &[org, word, first, second, third])?;
-    add_words(told, &[method(request.has_method), body(&request.body)])
+    add_words(
+        told,
+        &[
+            method(request.place.has_method(request.verb)),
+            body(&request.body),
+        ],
+    )
 }
 
 fn use_up(told: &mut String, request: Request) -> Result<(), NoMemory> {

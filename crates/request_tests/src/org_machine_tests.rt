@@ -77,7 +77,6 @@ fn request(alloc: Global, verb: Verb, words: &str, text: &str) -> Result<Request
         api: Some(0),
         verb,
         place: Place::Of { org, route },
-        has_method: true,
         asked: Parameters::new(alloc),
         body: body(alloc, text),
         close: false,

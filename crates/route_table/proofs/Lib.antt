@@ -2,5 +2,4 @@ pub mod SeekLemmas
 pub mod OrderLemmas
 pub mod Utf8Lemmas
 pub mod PathLemmas
-pub mod MethodLemmas
 pub mod LeftOutLemmas

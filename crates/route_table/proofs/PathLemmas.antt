@@ -9,17 +9,16 @@ use Rattle.matchit.specs.Router.{RouteOf, rename, map_key}
 use Rattle.matchit.specs.Seek.{first}
 use Rattle.matchit.proofs.RenameLemmas.{seek-rename}
 use Rattle.route_table.specs.declared.paths.Path.{Path}
-use Rattle.route_table.specs.declared.verbs.Verb.{Verb}
 use Rattle.route_table.specs.declared.table.Row.{Row}
 use Rattle.route_table.specs.Patterns.{Part, fixed, any, Table, is_segment, joined, route_of}
-use Rattle.route_table.specs.Routes.{FindsRows, known}
-use Rattle.route_table.specs.Table.{table, patterns, found_at}
+use Rattle.route_table.specs.Routes.{FindsRows}
+use Rattle.route_table.specs.Table.{table, patterns, path_at}
 use Rattle.route_table.proofs.SeekLemmas.{IsPlain, AreNames, ArePlain, IsTable, rows_of, walks}
 use Rattle.route_table.proofs.Utf8Lemmas.{AreBytes, are_bytes}
 use Rattle.route_table.proofs.OrderLemmas.{sorted, are_distinct, same_sorted}
 
 -- the table's patterns, in the router's order
-abbrev pub in_order : Table (Path × List Verb)
+abbrev pub in_order : Table Path
 in_order = sorted (patterns table)
 
 abbrev is_plain : List ℕ → Bool
@@ -90,18 +89,18 @@ table_distinct : are_distinct (patterns table) ≡ true
 unfolding table
 table_distinct = refl
 
-same_key : (found : Option (RouteOf Row)) → option_map (λ route. known route.value) found ≡ map_key (λ route. known route.value) found
+same_key : (found : Option (RouteOf Row)) → option_map (λ route. route.value.path) found ≡ map_key (λ route. route.value.path) found
 same_key None = refl
 same_key (Some route) = refl
 
-pub finds_rows : (router : RowsOf (RouteOf Row)) → rename (λ route. known route.value) router ≡ rows_of in_order → FindsRows router
-unfolding found_at
+pub finds_rows : (router : RowsOf (RouteOf Row)) → rename (λ route. route.value.path) router ≡ rows_of in_order → FindsRows router
+unfolding path_at
 finds_rows router e = record { finds = found }
   where
-    found : (ss : List (List ℕ)) → list_all is_segment ss ≡ true → IsUtf8 (joined ss) → option_map (λ route. known route.value) (first router (joined ss)) ≡ found_at ss
+    found : (ss : List (List ℕ)) → list_all is_segment ss ≡ true → IsUtf8 (joined ss) → option_map (λ route. route.value.path) (first router (joined ss)) ≡ path_at ss
     found ss good utf8 =
         same_key (first router (joined ss))
-        ∙ sym (seek-rename (λ route. known route.value) 0 router (joined ss))
+        ∙ sym (seek-rename (λ route. route.value.path) 0 router (joined ss))
         ∙ ap (λ rows. first rows (joined ss)) e
         ∙ walks ss (names_from ss good (are_bytes (joined ss) utf8)) in_order (table_from in_order table_good)
         ∙ same_sorted (patterns table) table_distinct ss

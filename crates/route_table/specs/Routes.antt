@@ -9,24 +9,14 @@ use Rattle.matchit.specs.Route.{Scan, parse_route}
 use Rattle.matchit.specs.Router.{RouteOf, route_from, nearest}
 use Rattle.matchit.specs.Seek.{first}
 use Rattle.matchit.specs.declared.error.InsertError.{InsertError}
-use Rattle.route_table.specs.declared.paths.Path.{Path}
 use Rattle.route_table.specs.declared.table.Row.{Row}
-use Rattle.route_table.specs.declared.verbs.Verb.{Verb}
 use Rattle.route_table.specs.Patterns.{is_segment, joined}
-use Rattle.route_table.specs.Table.{found_at, has_method, lists}
+use Rattle.route_table.specs.Table.{path_at}
 
--- what a row is known by: its path, and the methods that it has
-abbrev pub known : Row → Path × List Verb
-known row = (row.path, row.methods.now)
-
--- the methods of a path are those that the table has
-abbrev pub Agrees : Path × List Verb → Type 0
-Agrees found = (verb : Verb) → lists found.1 verb ≡ has_method found.0 verb
-
--- the router finds, for the path of any segments, what the table says of them
+-- the router finds, for the path of any segments, the path of the table that they name
 pub record FindsRows (router : RowsOf (RouteOf Row)) : Type 0 where
   pub finds : (segments : List (List ℕ)) → list_all is_segment segments ≡ true → IsUtf8 (joined segments)
-      → option_map (λ route. known route.value) (first router (joined segments)) ≡ found_at segments
+      → option_map (λ route. route.value.path) (first router (joined segments)) ≡ path_at segments
 
 -- the router with one more route
 abbrev pub with_route : Result Scan InsertError → Row → RowsOf (RouteOf Row) → RowsOf (RouteOf Row)

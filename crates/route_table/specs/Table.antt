@@ -1,7 +1,6 @@
 -- The table of routes: each path, with the methods that it has.
 use Rattle.std.specs.Prelude.{Bool, true, false, ℕ, List, [], ◌∷◌, ◌++◌, Option, None, map, codes, if◌then◌else◌}
 use Rattle.std.specs.List.{list_all}
-use Rattle.std.specs.Option.{option_map}
 use denote.Enum.Bare.{sameb}
 use Rattle.route_table.specs.declared.paths.Path.{Path}
 use Rattle.route_table.specs.declared.paths.Path.TheVariants.{Organisations, Organisation, Nodes, Roles, Environments, Clients, Groups, Node, Role, Environment, Client, Group, Users, User, Containers, Container, AccessList, AccessEntry, DataBags, DataBag, DataBagItem, Sandboxes, Sandbox, File, Cookbooks, Cookbook, CookbookVersion, Universe, Artifacts, Artifact, SolvedVersions, Policies, Policy, Revisions, Revision, PolicyGroups, PolicyGroup, Assignment, SearchIndexes, Search}
@@ -156,14 +155,10 @@ has_by (row ∷ rest) path verb = if is_path row.path path then lists row.method
 unfoldable pub has_method : Path → Verb → Bool
 has_method = has_by table
 
--- the patterns of the table, each with its path and the methods that it has
-abbrev pub patterns : List Route → Table (Path × List Verb)
-patterns rows = map (λ row. (row.pattern, (row.path, row.methods))) rows
+-- the patterns of the table, each with its path
+abbrev pub patterns : List Route → Table Path
+patterns rows = map (λ row. (row.pattern, row.path)) rows
 
--- the path that these segments name, where each of them is one, and the methods that it has
-unfoldable pub found_at : List (List ℕ) → Option (Path × List Verb)
-found_at segments = if list_all is_segment segments then route_of (patterns table) segments else None
-
--- the path that these segments name
+-- the path that these segments name, where each of them is one
 unfoldable pub path_at : List (List ℕ) → Option Path
-path_at segments = option_map (λ found. found.0) (found_at segments)
+path_at segments = if list_all is_segment segments then route_of (patterns table) segments else None

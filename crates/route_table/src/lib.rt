@@ -2,6 +2,7 @@
 #![tactic(auto)]
 
 mod left_out;
+mod methods;
 mod paths;
 mod routes;
 mod table;
@@ -10,7 +11,8 @@ mod tests;
 mod verbs;
 
 pub use left_out::is_left_out;
+pub use methods::has_method;
 pub use paths::Path;
-pub use routes::{Found, Routes};
+pub use routes::Routes;
 pub use table::{ROUTES, Row};
 pub use verbs::Verb;

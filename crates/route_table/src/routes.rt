@@ -1,21 +1,19 @@
-//! The router: which path of the table the segments of a target name, and what the table says of it.
-ghost use Rattle.std.specs.Prelude.{◌≡◌, ℕ, true, IfOk, List, string_bytes, []};
+//! The router: which path of the table the segments of a target name.
+ghost use Rattle.std.specs.Prelude.{◌≡◌, true, IfOk, string_bytes, []};
 ghost use Rattle.std.specs.List.{list_all};
 ghost use Rattle.std.specs.Option.{option_map};
 ghost use Rattle.matchit.specs.Route.{parse_route};
 ghost use Rattle.matchit.specs.Seek.{first};
 ghost use Rattle.route_table.specs.Patterns as patterns;
 ghost use Rattle.route_table.specs.Patterns.{joined};
-ghost use Rattle.route_table.specs.Routes.{Agrees, FindsRows, fits, fits_all, known, with_route, with_rows};
+ghost use Rattle.route_table.specs.Routes.{FindsRows, fits, fits_all, with_route, with_rows};
 ghost use Rattle.route_table.specs.Table as spec;
 
 use crate::paths::Path;
-use crate::table::{ROUTES, Row, lists};
-use crate::verbs::Verb;
+use crate::table::{ROUTES, Row};
 use doc_tree::{NoMemory, Text};
 use matchit::{InsertError, Router};
 use std::alloc::Global;
-use std::marker::Model;
 
 // How many bytes a joined path mostly has at most.
 const JOINED_LEN: usize = 128;
@@ -25,40 +23,6 @@ const JOINED_LEN: usize = 128;
 pub struct Routes {
     router: Router<Row>,
     ghost table: { FindsRows router },
-}
-
-/// A path of the table that was found, known with its methods. Contracts see it as the path.
-#[derive(Drop)]
-pub struct Found {
-    path: Path,
-    methods: &'static [Verb],
-}
-
-impl Model for Found {
-    ghost use Rattle.route_table.specs.declared.paths.Path.{Path};
-    ghost use Rattle.route_table.specs.Routes.{Agrees};
-
-    ghost Value = { Path };
-
-    ghost view = { λ found. found.path };
-
-    ghost invariant = { λ found. Agrees (found.path, found.methods.now) };
-}
-
-impl Found {
-    /// The path.
-    pub fn path(&self) -> Path
-        ensures { result ≡ self.now }
-    {
-        self.path
-    }
-
-    /// Whether the path has the method, without a further look through the table.
-    pub fn has_method(&self, verb: Verb) -> bool
-        ensures { result ≡ spec.has_method self.now verb }
-    {
-        lists(self.methods, verb)
-    }
 }
 
 impl Routes {
@@ -71,7 +35,7 @@ impl Routes {
     /// The path of the table that these segments name. `None` where no route has them, as where one
     /// of them is empty or holds a slash. Where two routes fit, the one that has a fixed segment
     /// there is it. It takes the memory of one string.
-    pub fn find(&self, alloc: Global, segments: &[Text]) -> Result<Option<Found>, NoMemory>
+    pub fn find(&self, alloc: Global, segments: &[Text]) -> Result<Option<Path>, NoMemory>
         ensures { IfOk result (λ found. found ≡ spec.path_at segments.now) }
     {
         if !are_segments(segments) {
@@ -82,36 +46,13 @@ impl Routes {
     }
 
     // The path of the table that a text spells.
-    fn found(&self, path: &str) -> Option<Found>
-        requires { (segments : List (List ℕ)) × (list_all patterns.is_segment segments ≡ true) × (path.now ≡ joined segments) }
-        ensures { (segments : List (List ℕ)) → list_all patterns.is_segment segments ≡ true → path.now ≡ joined segments
-            → result ≡ spec.path_at segments }
-    {
-        match self.at(path) {
-            Some(row) => Some(found_by(row)),
-            None => None,
-        }
-    }
-
-    // The row that the router has for a text.
-    fn at(&self, path: &str) -> Option<Row>
-        ensures { result ≡ option_map (λ route. route.value) (first self.now.router path.now) }
+    fn found(&self, path: &str) -> Option<Path>
+        ensures { result ≡ option_map (λ route. route.value.path) (first self.now.router path.now) }
     {
         match self.router.at(path) {
-            Ok(found) => Some(*found.value),
+            Ok(found) => Some(found.value.path),
             Err(_) => None,
         }
-    }
-}
-
-// The path that a row of the table has.
-fn found_by(row: Row) -> Found
-    requires { Agrees (known row) }
-    ensures { result ≡ row.path }
-{
-    Found {
-        path: row.path,
-        methods: row.methods,
     }
 }
 

@@ -1,5 +1,5 @@
 //! Paths, their methods, and what is left out.
-use crate::{Found, ROUTES, Routes, Row, Verb, is_left_out};
+use crate::{Path, ROUTES, Routes, Row, Verb, has_method, is_left_out};
 use doc_tree::{NoMemory, Text};
 use std::alloc::Global;
 use std::test::Fail;
@@ -98,8 +98,7 @@ fn unfound_patterns(alloc: Global, routes: &Routes, rows: &[Row]) -> Result<Stri
     let mut told = String::new(alloc);
     for row in rows {
         let segments = segments_of(alloc, row.pattern)?;
-        let found = routes.find(alloc, &segments)?.map(|found| found.path());
-        if found != Some(row.path) {
+        if routes.find(alloc, &segments)? != Some(row.path) {
             told.push_str(row.pattern)?;
         }
     }
@@ -118,25 +117,24 @@ fn add_method(told: &mut String, name: &str, has: bool) -> Result<(), NoMemory> 
     Ok(())
 }
 
-fn methods_of(alloc: Global, found: Found) -> Result<String, NoMemory> {
+fn methods_of(alloc: Global, path: Path) -> Result<String, NoMemory> {
     let mut told = String::new(alloc);
-    add_method(&mut told, "GET", found.has_method(Verb::Get))?;
-    add_method(&mut told, "POST", found.has_method(Verb::Post))?;
-    add_method(&mut told, "PUT", found.has_method(Verb::Put))?;
-    add_method(&mut told, "DELETE", found.has_method(Verb::Delete))?;
-    add_method(&mut told, "other", found.has_method(Verb::Other))?;
+    add_method(&mut told, "GET", has_method(path, Verb::Get))?;
+    add_method(&mut told, "POST", has_method(path, Verb::Post))?;
+    add_method(&mut told, "PUT", has_method(path, Verb::Put))?;
+    add_method(&mut told, "DELETE", has_method(path, Verb::Delete))?;
+    add_method(&mut told, "other", has_method(path, Verb::Other))?;
     Ok(told)
 }
 
-fn methods_told(alloc: Global, found: Option<Found>) -> Result<String, NoMemory> {
+fn methods_told(alloc: Global, found: Option<Path>) -> Result<String, NoMemory> {
     match found {
-        Some(found) => methods_of(alloc, found),
+        Some(path) => methods_of(alloc, path),
         None => Ok(String::from_str(alloc, "none")?),
     }
 }
 
-fn path_told(alloc: Global, found: Option<Found>) -> Result<String, NoMemory> {
-    let path = found.map(|found| found.path());
+fn path_told(alloc: Global, path: Option<Path>) -> Result<String, NoMemory> {
     Ok(format!(in alloc; "{path:?}")?)
 }
 

@@ -1,5 +1,5 @@
 -- What the index finds is what is found by a look at each object.
-use Rattle.std.proofs.Common.{◌≡◌, ◌∙◌, ◌↔◌, ◌&&◌, ◌||◌, ℕ, true, false, List, [], ◌∷◌, Option, Some, None, IsTrue, arith, bytes_eq, is_some, option_map, unwrap_or, ap, inl, inr, refl, subst, sym, Result, Ok, Err, IfOk}
+use Rattle.std.proofs.Common.{◌≡◌, ◌∙◌, ◌↔◌, ◌&&◌, ◌||◌, ℕ, Bool, true, false, cond, List, [], ◌∷◌, Option, Some, None, IsTrue, arith, bytes_eq, is_some, option_map, unwrap_or, ap, inl, inr, refl, subst, sym, Result, Ok, Err, IfOk}
 use Rattle.std.specs.Cmp.Lexicographic.{slice_cmp}
 use Rattle.std.specs.FinMap as finite
 use Rattle.std.specs.List.{cons_option, filter, filter_map, list_any}
@@ -117,6 +117,10 @@ given_by c org index query names name kind (Some object) gives there pairs =
     (meeting_told query (pairs_of kind object))
     (λ met. met, λ met. met)
 
+-- of a word that has an index
+plain_found : (index name : List ℕ) (objects : Objects) → is_plain index ≡ true → found_by index name objects ≡ object_at (index_of index) objects name
+plain_found index name objects plain = ap (λ b. cond b (object_at (index_of index) objects name) None) plain
+
 -- what the index gives where it is exact for the objects is what is found among them
 pub found_same : (c : Contents) (org index : List ℕ) (query : Ors) (objects : Objects) (names : List (List ℕ)) → HoldsExactly (held_of c) org objects → is_plain index ≡ true → Gives c org index query names → InOrder names
     → names ≡ found_in (index_of index) query objects
@@ -126,7 +130,8 @@ found_same c org index query objects names exact plain gives rising =
     (IsStrictlySortedBy-filter (slice_cmp nat_cmp) (is_found (index_of index) query objects) (names_of (index_of index) objects) (names_order (index_of index) objects))
     (λ name.
     lists_as_bytes names name
-    ∙ given_by c org index query names name (kind_of (index_of index)) (found_by index name objects) gives (exact.there index name plain) (λ p. exact.pairs index name p plain)
+    ∙ given_by c org index query names name (kind_of (index_of index)) (found_by index name objects) gives (exact.there index name) (λ p. exact.pairs index name p)
+    ∙ ap (finds query (kind_of (index_of index))) (plain_found index name objects plain)
     ∙ sym (found_has (index_of index) query objects name))
 
 -- so is it of what a search answers, if it answers
@@ -151,9 +156,16 @@ unlooked (Err cause) steps = (omega arith, omega arith)
 nothing_found : (query_kind : Kind) (object : Option Doc) → object ≡ None → (p : Pair) → false ≡ lists (unwrap_or (option_map (pairs_of query_kind) object) []) p
 nothing_found kind object none p = ap (λ (o : Option Doc). lists (unwrap_or (option_map (pairs_of kind) o) []) p) (sym none)
 
+where_there : (plain : Bool) (object : Option Doc) → object ≡ None → cond plain object None ≡ None
+where_there true object none = none
+where_there false object none = refl
+
+nothing_by : (word name : List ℕ) → found_by word name finite.empty ≡ None
+nothing_by word name = where_there (is_plain word) (finite.get finite.empty (key_in (index_of word) name)) (finite.get-empty key_cmp (key_in (index_of word) name))
+
 -- a finder that holds nothing is exact for an organisation without objects
 pub nothing_is_exact : (org : List ℕ) → IsExact (Some nothing) org finite.empty
 nothing_is_exact org = record {
-  there = λ index name plain. ap is_some (sym (finite.get-empty key_cmp (key_in (index_of index) name)));
-  pairs = λ index name p plain. nothing_found (kind_of (index_of index)) (found_by index name finite.empty) (finite.get-empty key_cmp (key_in (index_of index) name)) p;
+  there = λ word name. ap is_some (sym (nothing_by word name));
+  pairs = λ word name p. nothing_found (kind_of (index_of word)) (found_by word name finite.empty) (nothing_by word name) p;
 }

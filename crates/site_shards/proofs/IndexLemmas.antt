@@ -12,8 +12,8 @@ use Rattle.site_shards.specs.Organisations.{KeptOrganisations, kept_at, state_at
 -- what is held of another organisation is as before, so it is exact as before
 others_exact : (org name : List ℕ) (old new : Held) (objects : Objects) → OthersStay org old new → bytes_eq org name ≡ false → HoldsExactly old name objects → HoldsExactly new name objects
 others_exact org name old new objects stay other exact = record {
-  there = λ index n plain. stay.objects name index n other ∙ exact.there index n plain;
-  pairs = λ index n p plain. stay.pairs name index n p other ∙ exact.pairs index n p plain;
+  there = λ word n. stay.objects name word n other ∙ exact.there word n;
+  pairs = λ word n p. stay.pairs name word n p other ∙ exact.pairs word n p;
 }
 
 -- under one name: its own organisation is as the request leaves it, any other as before

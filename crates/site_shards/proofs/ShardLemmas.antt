@@ -222,6 +222,15 @@ site_under shards number place old new org name request reply (inl same) within 
 site_under shards number place old new org name request reply (inr other) within had step stays =
     ap (kept_by name) (get-set_other shards number place new (λ same. other (sym same))) ∙ sym (stays other)
 
+-- the state of an organisation is the one that the shard keeps to which it belongs
+pub site-read : (shards : List Shard) (number : ℕ) (shard : Shard) (org : List ℕ)
+    → number ≡ shard_of org (length shards)
+    → number < length shards
+    → shard ≡ get_or shards number shard
+    → site_states shards org ≡ states_in shard org
+site-read shards number shard org belongs within had =
+    ap (λ k. kept_by org (slice_get shards k)) (sym belongs) ∙ ap (kept_by org) (slice_get_read shards (length shards) number shard refl within had)
+
 -- one shard of a site is written back after a request of an organisation that belongs to it
 pub site-written : (shards : List Shard) (number : ℕ) (old new : Shard) (org : List ℕ) (request : Request) (reply : Reply)
     → number ≡ shard_of org (length shards)

@@ -10,7 +10,8 @@ use Rattle.site_shards.specs.Organisations.{KeptOrganisations, kept_at, state_at
 abbrev pub objects_at : KeptOrganisations → List ℕ → Objects
 objects_at organisations name = objects_of (state_at (kept_at organisations name))
 
--- under each name the index holds, of each index and object of that organisation, the object's pairs and no others
+-- under each name the index holds, of each index and object of that organisation, the object's pairs and no others, and
+-- nothing under any other word
 abbrev pub IsIndexed : KeptOrganisations → Held → Type 0
 IsIndexed organisations held = (name : List ℕ) → HoldsExactly held name (objects_at organisations name)
 

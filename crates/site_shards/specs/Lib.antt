@@ -1,4 +1,5 @@
 pub mod Organisations
 pub mod Indexing
+pub mod Looking
 pub mod Shards
 pub mod Listing

@@ -39,7 +39,7 @@ pub struct Shard {
     // And the files of each meet their conditions, so who isn't kept has none.
     ghost conditions: { (name : List ℕ) → MeetsFileConditions (full_at organisations files name) } by { λ one other i name. record { nobody = λ none. Coded-set holding_code (holding_of files name) nothing ((one name).nobody none) ((other name).nobody none) i; named = λ sum named. Coded-set coded_bool (is_committed (holding_of files name) sum) true ((one name).named sum named) ((other name).named sum named) i } },
     // The index holds each organisation's objects with their pairs, and no others.
-    ghost indexed: { IsIndexed organisations (held_in index) } by { λ one other i name. record { there = λ word n plain. Coded-set coded_bool ((held_in index).has_object name word n) (is_some (found_by word n (objects_at organisations name))) ((one name).there word n plain) ((other name).there word n plain) i; pairs = λ word n pair plain. Coded-set coded_bool ((held_in index).has_pair name word n pair) (lists (pairs_by word n (objects_at organisations name)) pair) ((one name).pairs word n pair plain) ((other name).pairs word n pair plain) i } },
+    ghost indexed: { IsIndexed organisations (held_in index) } by { λ one other i name. record { there = λ word n. Coded-set coded_bool ((held_in index).has_object name word n) (is_some (found_by word n (objects_at organisations name))) ((one name).there word n) ((other name).there word n) i; pairs = λ word n pair. Coded-set coded_bool ((held_in index).has_pair name word n pair) (lists (pairs_by word n (objects_at organisations name)) pair) ((one name).pairs word n pair) ((other name).pairs word n pair) i } },
 }
 
 /// The organisations of a shard, by their names.
@@ -85,6 +85,8 @@ impl Shard {
         ensures stays { ¬ (IsGood result.status) → (name : List ℕ) → states_in self.new name ≡ states_in self.old name }
         // The index holds each organisation's objects with their pairs as they are now, and no others.
         ensures indexed { IsIndexed self.new.organisations (held_in self.new.index) }
+        // A reply other than 200 and 201 leaves what it holds as it was.
+        ensures held { ¬ (IsGood result.status) → held_in self.new.index ≡ held_in self.old.index }
         // A step is a body that the request itself looks at: to find objects the index looks at none.
         ensures looks { Looks no_looks result request.now (states_in self.old org.now) steps.old steps.new }
     {
@@ -140,6 +142,7 @@ impl Shard {
         ensures lawful { IsLawful (mark_of result) request.now (states_in self.old org.now) }
         ensures states { (name : List ℕ) →
             states_in self.new name ≡ state_then name request.now result (states_in self.old name) }
+        ensures held { ¬ (IsGood result.status) → held_in self.new.index ≡ held_in self.old.index }
         ensures looks { Looks no_looks result request.now (states_in self.old org.now) steps.old steps.new }
     {
         match self.make_room(alloc, org) {
@@ -151,6 +154,7 @@ impl Shard {
     // All the memory that a new organisation needs here: its name twice, and a place in the map.
     fn make_room(&mut self, alloc: Global, org: &Text) -> Result<(Text, OrgState), NoMemory>
         ensures states { (name : List ℕ) → states_in self.new name ≡ states_in self.old name }
+        ensures held { held_in self.new.index ≡ held_in self.old.index }
         ensures absent { kept_at self.new.organisations org.now ≡ kept_at self.old.organisations org.now }
         ensures key { IfOk result (λ made. made.0 ≡ org.now) }
         ensures name { IfOk result (λ made. made.1.name ≡ org.now) }
@@ -180,6 +184,7 @@ impl Shard {
         ensures lawful { IsLawful (mark_of result) request.now (states_in self.old key) }
         ensures states { (name : List ℕ) →
             states_in self.new name ≡ state_then name request.now result (states_in self.old name) }
+        ensures held { ¬ (IsGood result.status) → held_in self.new.index ≡ held_in self.old.index }
         ensures looks { Looks no_looks result request.now (states_in self.old key) steps.old steps.new }
     {
         let mut state = state;

@@ -6,8 +6,10 @@ ghost use Rattle.org_machine.specs.Alone.{Lists, OutsideAnswer};
 ghost use Rattle.org_core.specs.Refusals.{out_of_memory};
 ghost use Rattle.org_core.specs.Requests.{org_of};
 ghost use Rattle.org_machine.specs.Marks.{mark_of, answer, IsLawful};
-ghost use Rattle.org_machine.specs.Serving.{Serves, state_then};
+ghost use Rattle.org_machine.specs.Serving.{Looks, Serves, state_then};
 ghost use Rattle.http_wire.specs.Requests.{IsRead};
+ghost use Rattle.site_shards.specs.Indexing.{no_looks};
+ghost use Rattle.site_shards.specs.Looking.{LooksIn};
 ghost use Rattle.site_shards.specs.Shards.{site_states, IsSite};
 
 use crate::listing::list;
@@ -19,7 +21,7 @@ use std::alloc::Global;
 use std::sync::ledger::Ledger;
 
 /// Serves one request over the shards of a site. A request whose parts found no memory is answered
-/// so, whatever its bytes spell.
+/// so, whatever its bytes spell. Each body that is looked at is one step.
 pub fn serve<L: Ledger>(
     alloc: Global,
     shards: &mut [Shard],
@@ -27,8 +29,9 @@ pub fn serve<L: Ledger>(
     steps: &mut Steps<L>,
 ) -> Reply
     requires { IsSite shards.old }
-    ensures { (spelled : Request) → IsRead request spelled →
+    ensures served { (spelled : Request) → IsRead request spelled →
         Serves (site_states shards.old) spelled result (site_states shards.new) }
+    ensures looks { LooksIn (site_states shards.old) (org_of request) request result steps.old steps.new }
 {
     serve_at(alloc, shards, &request, steps)
 }
@@ -41,8 +44,9 @@ fn serve_at<L: Ledger>(
     steps: &mut Steps<L>,
 ) -> Reply
     requires { IsSite shards.old }
-    ensures { (spelled : Request) → IsRead request.now spelled →
+    ensures served { (spelled : Request) → IsRead request.now spelled →
         Serves (site_states shards.old) spelled result (site_states shards.new) }
+    ensures looks { LooksIn (site_states shards.old) (org_of request.now) request.now result steps.old steps.new }
 {
     match &request.place {
         Place::Of { org, route: _ } => serve_own(alloc, shards, org, request, steps),
@@ -89,6 +93,7 @@ fn serve_own<L: Ledger>(
     ensures lawful { IsLawful (mark_of result) request.now (site_states shards.old org.now) }
     ensures states { (name : List ℕ) →
         site_states shards.new name ≡ state_then name request.now result (site_states shards.old name) }
+    ensures looks { Looks no_looks result request.now (site_states shards.old org.now) steps.old steps.new }
 {
     let number = shard_of(org.as_bytes(), shards.len());
     let shard = &mut shards[number];
