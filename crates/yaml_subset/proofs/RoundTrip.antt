@@ -5,9 +5,10 @@ use Rattle.std.specs.List.{list_all}
 use Rattle.std.specs.Str.Lines.{lines}
 use Rattle.doc_tree.specs.Doc.{Doc, null, boolean, whole, words, list, dict, Docs, no_docs, then_doc, Pairs, no_pairs, then_pair, depth}
 use Rattle.doc_tree.specs.Valid.{IsDoc, AreDocs, ArePairs}
-use Rattle.yaml_subset.specs.Layout.{is_lone, lays, lays_said, next_mode, outside, rest_marks}
+use Rattle.yaml_subset.specs.Layout.{is_lone, rest_marks}
 use Rattle.yaml_subset.specs.Machine.{finish, run}
-use Rattle.yaml_subset.specs.Said.{a_said, said_at}
+use Rattle.yaml_subset.specs.Said.{said_at}
+use Rattle.yaml_subset.specs.Says.{a_said}
 use Rattle.yaml_subset.specs.Signs.{has_tab, is_marker, is_opening, is_passed, spaces}
 use Rattle.yaml_subset.specs.Spells.{Spells}
 use Rattle.yaml_subset.specs.Written.{block_text, deeper, is_block, items_text, node_text, pairs_text, scalar_text, words_text, written}
@@ -18,6 +19,7 @@ use Rattle.yaml_subset.specs.declared.said.Rest.TheVariants.{Nothing, Scalar}
 use Rattle.yaml_subset.specs.declared.blocks.Blocks.TheVariants.{Alone, Start}
 use Rattle.yaml_subset.proofs.BlockLemmas.{block_runs, items_marks, pairs_marks, part_marks}
 use Rattle.yaml_subset.proofs.CutLemmas.{all_append, is_inline, next_line}
+use Rattle.yaml_subset.proofs.Laid.{lays, lays_said, next_mode, outside}
 use Rattle.yaml_subset.proofs.PartLemmas.{IsHead, Reads, dash_head, key_head, said_back, scalar_reads}
 use Rattle.yaml_subset.proofs.Reading.{comes_spells, marks_end}
 use Rattle.yaml_subset.proofs.SignsLemmas.{passed_spaces}
