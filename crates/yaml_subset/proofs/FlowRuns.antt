@@ -27,19 +27,19 @@ bracket_opens new room want one below is deep =
     let less : nat_lt (length below) 99 ≡ true = lt-ltb (length below) 99 (omega arith) in
     cond-true (takes want one && nat_lt (length below) 99) _ _ (and_from (takes want one) (nat_lt (length below) 99) is less)
 
-list_ends : (goes_on : Bool) (ds : List Doc) (one : Bracket) (below : List Bracket) → flow_step CloseList (within (want_of goes_on) (InList ds) (one ∷ below)) ≡ Some (within Sign (put (list (docs_of ds)) one) below)
+list_ends : (may_come : Bool) (ds : List Doc) (one : Bracket) (below : List Bracket) → flow_step CloseList (within (want_of may_come) (InList ds) (one ∷ below)) ≡ Some (within Sign (put (list (docs_of ds)) one) below)
 list_ends true ds one below = refl
 list_ends false ds one below = refl
 
-map_ends : (goes_on : Bool) (ps : List (List ℕ × Doc)) (k : List ℕ) (one : Bracket) (below : List Bracket) → flow_step CloseMap (within (want_of goes_on) (InMap ps k) (one ∷ below)) ≡ Some (within Sign (put (dict (pairs_of ps)) one) below)
+map_ends : (may_come : Bool) (ps : List (List ℕ × Doc)) (k : List ℕ) (one : Bracket) (below : List Bracket) → flow_step CloseMap (within (want_of may_come) (InMap ps k) (one ∷ below)) ≡ Some (within Sign (put (dict (pairs_of ps)) one) below)
 map_ends true ps k one below = refl
 map_ends false ps k one below = refl
 
-list_over : (goes_on : Bool) (ds : List Doc) → flow_step CloseList (within (want_of goes_on) (InList ds) []) ≡ Some (Over (list (docs_of ds)))
+list_over : (may_come : Bool) (ds : List Doc) → flow_step CloseList (within (want_of may_come) (InList ds) []) ≡ Some (Over (list (docs_of ds)))
 list_over true ds = refl
 list_over false ds = refl
 
-map_over : (goes_on : Bool) (ps : List (List ℕ × Doc)) (k : List ℕ) → flow_step CloseMap (within (want_of goes_on) (InMap ps k) []) ≡ Some (Over (dict (pairs_of ps)))
+map_over : (may_come : Bool) (ps : List (List ℕ × Doc)) (k : List ℕ) → flow_step CloseMap (within (want_of may_come) (InMap ps k) []) ≡ Some (Over (dict (pairs_of ps)))
 map_over true ps k = refl
 map_over false ps k = refl
 
@@ -51,24 +51,24 @@ key_goes k ps below new = rw new refl
 mutual
   flow_runs : {room : ℕ} {u : List Token} {d : Doc} → Flow room u d → (want : Want) (one : Bracket) (below : List Bracket) (v : List Token) → takes want one ≡ true → room + length below ≡ 99
       → flow_run (Some (within want one below)) (u ++ v) ≡ flow_run (Some (within Sign (put d one) below)) v
-  flow_runs (flow_list {room = room} {goes_on = goes_on} {inner = inner} {ds = ds} items) want one below v is deep =
+  flow_runs (flow_list {room = room} {may_come = may_come} {inner = inner} {ds = ds} items) want one below v is deep =
       ap (λ (o : Option Flowing). flow_run o ((inner ++ CloseList ∷ []) ++ v)) (bracket_opens (InList []) room want one below is deep)
       ∙ ap (λ (l : List Token). flow_run (Some (within More (InList []) (one ∷ below))) l) (append_assoc inner (CloseList ∷ []) v)
       ∙ items_run items (one ∷ below) (CloseList ∷ v) (omega arith)
-      ∙ ap (λ (o : Option Flowing). flow_run o v) (list_ends goes_on ds one below)
-  flow_runs (flow_map {room = room} {goes_on = goes_on} {inner = inner} {ps = ps} entries) want one below v is deep =
+      ∙ ap (λ (o : Option Flowing). flow_run o v) (list_ends may_come ds one below)
+  flow_runs (flow_map {room = room} {may_come = may_come} {inner = inner} {ps = ps} entries) want one below v is deep =
       ap (λ (o : Option Flowing). flow_run o ((inner ++ CloseMap ∷ []) ++ v)) (bracket_opens (InMap [] []) room want one below is deep)
       ∙ ap (λ (l : List Token). flow_run (Some (within More (InMap [] []) (one ∷ below))) l) (append_assoc inner (CloseMap ∷ []) v)
       ∙ entries_run entries (one ∷ below) (CloseMap ∷ v) (omega arith)
-      ∙ ap (λ (o : Option Flowing). flow_run o v) (map_ends goes_on ps [] one below)
+      ∙ ap (λ (o : Option Flowing). flow_run o v) (map_ends may_come ps [] one below)
 
   value_runs : {room : ℕ} {u : List Token} {d : Doc} → FlowValue room u d → (want : Want) (one : Bracket) (below : List Bracket) (v : List Token) → takes want one ≡ true → room + length below ≡ 99
       → flow_run (Some (within want one below)) (u ++ v) ≡ flow_run (Some (within Sign (put d one) below)) v
   value_runs (flow_scalar {d = d}) want one below v is deep = ap (λ (o : Option Flowing). flow_run o v) (value_goes d want one below is)
   value_runs (inner_flow f) want one below v is deep = flow_runs f want one below v is deep
 
-  items_run : {room : ℕ} {goes_on : Bool} {u : List Token} {ds : List Doc} → FlowItems room goes_on u ds → (below : List Bracket) (v : List Token) → room + length below ≡ 99
-      → flow_run (Some (within More (InList []) below)) (u ++ v) ≡ flow_run (Some (within (want_of goes_on) (InList ds) below)) v
+  items_run : {room : ℕ} {may_come : Bool} {u : List Token} {ds : List Doc} → FlowItems room may_come u ds → (below : List Bracket) (v : List Token) → room + length below ≡ 99
+      → flow_run (Some (within More (InList []) below)) (u ++ v) ≡ flow_run (Some (within (want_of may_come) (InList ds) below)) v
   items_run no_item below v deep = refl
   items_run (one_item {before = before} {tokens = tokens} {ds = ds} items one) below v deep =
       ap (λ (l : List Token). flow_run (Some (within More (InList []) below)) l) (append_assoc before tokens v)
@@ -76,8 +76,8 @@ mutual
   items_run (item_comma {before = before} items) below v deep =
       ap (λ (l : List Token). flow_run (Some (within More (InList []) below)) l) (append_assoc before (Comma ∷ []) v) ∙ items_run items below (Comma ∷ v) deep
 
-  entries_run : {room : ℕ} {goes_on : Bool} {u : List Token} {ps : List (List ℕ × Doc)} → FlowEntries room goes_on u ps → (below : List Bracket) (v : List Token) → room + length below ≡ 99
-      → flow_run (Some (within More (InMap [] []) below)) (u ++ v) ≡ flow_run (Some (within (want_of goes_on) (InMap ps []) below)) v
+  entries_run : {room : ℕ} {may_come : Bool} {u : List Token} {ps : List (List ℕ × Doc)} → FlowEntries room may_come u ps → (below : List Bracket) (v : List Token) → room + length below ≡ 99
+      → flow_run (Some (within More (InMap [] []) below)) (u ++ v) ≡ flow_run (Some (within (want_of may_come) (InMap ps []) below)) v
   entries_run no_entry below v deep = refl
   entries_run (one_entry {before = before} {tokens = tokens} {ps = ps} k entries new one) below v deep =
       ap (λ (l : List Token). flow_run (Some (within More (InMap [] []) below)) l) (append_assoc before (Key k ∷ tokens) v)
@@ -90,8 +90,8 @@ mutual
 -- ---- the whole
 
 flow_whole : {room : ℕ} {u : List Token} {d : Doc} → Flow room u d → room ≡ 100 → flow_run (Some Before) u ≡ Some (Over d)
-flow_whole (flow_list {goes_on = goes_on} {inner = inner} {ds = ds} items) deep = items_run items [] (CloseList ∷ []) (omega arith) ∙ list_over goes_on ds
-flow_whole (flow_map {goes_on = goes_on} {inner = inner} {ps = ps} entries) deep = entries_run entries [] (CloseMap ∷ []) (omega arith) ∙ map_over goes_on ps []
+flow_whole (flow_list {may_come = may_come} {inner = inner} {ds = ds} items) deep = items_run items [] (CloseList ∷ []) (omega arith) ∙ list_over may_come ds
+flow_whole (flow_map {may_come = may_come} {inner = inner} {ps = ps} entries) deep = entries_run entries [] (CloseMap ∷ []) (omega arith) ∙ map_over may_come ps []
 
 -- tokens that spell a document are read to it
 pub tokens_run : (u : List Token) (d : Doc) → SpellsFlow u d → flow_run (Some Before) u ≡ Some (Over d)

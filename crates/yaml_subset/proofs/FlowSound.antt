@@ -112,15 +112,16 @@ bracket_opens new t want one below u h is part =
     inner : (room : ℕ) (front own : List Token) → u ≡ front ++ opener one ∷ own → Around room below front → Part room want one own → takes want one ≡ true → nat_lt (length below) 99 ≡ true → Has (within More new (one ∷ below)) (u ++ t ∷ [])
     inner zero front own same around p takes_ less = absurd (let deep = around_room zero below front around in grind (arith, nat_tests, deep, less))
     inner (suc room) front own same around p takes_ less = (room, u, [], ap (λ (x : Token). u ++ x ∷ []) (sym is), (front, own, same, around, due_of (suc room) want one own takes_ p), part room)
+
     goes : takes want one ≡ true → nat_lt (length below) 99 ≡ true → Next (Some (within More new (one ∷ below))) (u ++ t ∷ [])
     goes takes_ less = let (room, front, own, same, around, p) = h in next_some (within More new (one ∷ below)) (u ++ t ∷ []) (inner room front own same around p takes_ less)
 
-list_closes : (goes_on : Bool) (room : ℕ) (ds : List Doc) (below : List Bracket) (front own u : List Token) → u ≡ front ++ OpenList ∷ own → Around room below front → FlowItems room goes_on own ds → Next (Some (closed (list (docs_of ds)) below)) (u ++ CloseList ∷ [])
-list_closes goes_on room ds below front own u is around items =
+list_closes : (may_come : Bool) (room : ℕ) (ds : List Doc) (below : List Bracket) (front own u : List Token) → u ≡ front ++ OpenList ∷ own → Around room below front → FlowItems room may_come own ds → Next (Some (closed (list (docs_of ds)) below)) (u ++ CloseList ∷ [])
+list_closes may_come room ds below front own u is around items =
     next_some (closed (list (docs_of ds)) below) (u ++ CloseList ∷ []) (closes room (list (docs_of ds)) below front (OpenList ∷ (own ++ CloseList ∷ [])) (u ++ CloseList ∷ []) (more front own u OpenList CloseList is) around (flow_list items))
 
-map_closes : (goes_on : Bool) (room : ℕ) (ps : List (List ℕ × Doc)) (below : List Bracket) (front own u : List Token) → u ≡ front ++ OpenMap ∷ own → Around room below front → FlowEntries room goes_on own ps → Next (Some (closed (dict (pairs_of ps)) below)) (u ++ CloseMap ∷ [])
-map_closes goes_on room ps below front own u is around entries =
+map_closes : (may_come : Bool) (room : ℕ) (ps : List (List ℕ × Doc)) (below : List Bracket) (front own u : List Token) → u ≡ front ++ OpenMap ∷ own → Around room below front → FlowEntries room may_come own ps → Next (Some (closed (dict (pairs_of ps)) below)) (u ++ CloseMap ∷ [])
+map_closes may_come room ps below front own u is around entries =
     next_some (closed (dict (pairs_of ps)) below) (u ++ CloseMap ∷ []) (closes room (dict (pairs_of ps)) below front (OpenMap ∷ (own ++ CloseMap ∷ [])) (u ++ CloseMap ∷ []) (more front own u OpenMap CloseMap is) around (flow_map entries))
 
 key_goes : (k : List ℕ) (ps : List (List ℕ × Doc)) (old : List ℕ) (below : List Bracket) (u : List Token) → Inside More (InMap ps old) below u → (o : Option Doc) → pair_at k (pairs_of ps) ≡ o

@@ -147,7 +147,7 @@ within_laid sign done line lines marks more is = elim (split_if (belongs sign.ab
     | inr f ↦ let no_ = f.1 in cc
   ]
   | inr h ↦ let (rest, laid, same) = map_parts (λ ms. literal_mark sign done ∷ ms) (lays_line (λ mode. lays mode lines) false line) marks h.1 in
-  end_own sign done (line ∷ lines) marks rest (cond-false (belongs sign.above line) false true h.0) (line_laid false line lines rest more laid) same
+      end_own sign done (line ∷ lines) marks rest (cond-false (belongs sign.above line) false true h.0) (line_laid false line lines rest more laid) same
 ]
 
 found : (lines : List (List ℕ)) → Found lines

@@ -125,6 +125,7 @@ no_colon (b ∷ text) is = elim (split_if (is_indicator b) false _ true is) [
       | inl some ↦ let no_ = some.1 in cc
       | inr none ↦ none_of (colon_at (b ∷ text)) none.0
     ]
+
     inner : (if (b == 45 || (b == 63 || b == 58)) && is_apart text then false else (if is_some (colon_at (b ∷ text)) then false else true)) ≡ true → colon_at (b ∷ text) ≡ None
     inner is = elim (split_if ((b == 45 || (b == 63 || b == 58)) && is_apart text) false _ true is) [
       | inl sign ↦ let no_ = sign.1 in cc
@@ -278,7 +279,7 @@ key_hash b text p is = elim (cases_Bool (b == 35)) [
 key_dash : (b : ℕ) (text : List ℕ) (p : List ℕ × ℕ) → key_of (b ∷ text) ≡ Some p → (b == 45 && is_apart text) ≡ false
 key_dash b text p is = elim (cases_Bool (b == 45 && is_apart text)) [
   | inl dashed ↦ let (same, apart) = and_parts (b == 45) (is_apart text) dashed in
-  let none = ap (λ (n : ℕ). key_of (n ∷ text)) (eqb-true b 45 same) ∙ no_key 45 text refl apart in absurd (let no_ = sym is ∙ none in cc)
+      let none = ap (λ (n : ℕ). key_of (n ∷ text)) (eqb-true b 45 same) ∙ no_key 45 text refl apart in absurd (let no_ = sym is ∙ none in cc)
   | inr other_ ↦ other_
 ]
 
@@ -330,7 +331,7 @@ literal_stands (b ∷ text) rest is = elim (split_if (is_tail (b ∷ text)) _ _ 
   | inl h ↦ subst (λ (r : Rest). Stands (124 ∷ b ∷ text) r) (same_Some (Literal true) rest h.1) (literal h.0)
   | inr h ↦ elim (split_if (b == 45 && is_tail text) _ _ (Some rest) h.1) [
     | inl f ↦ let (same, tail) = and_parts (b == 45) (is_tail text) f.0 in
-    subst (λ (r : Rest). Stands (124 ∷ b ∷ text) r) (same_Some (Literal false) rest f.1) (subst (λ (n : ℕ). Stands (124 ∷ n ∷ text) (Literal false)) (sym (eqb-true b 45 same)) (bare_literal tail))
+        subst (λ (r : Rest). Stands (124 ∷ b ∷ text) r) (same_Some (Literal false) rest f.1) (subst (λ (n : ℕ). Stands (124 ∷ n ∷ text) (Literal false)) (sym (eqb-true b 45 same)) (bare_literal tail))
     | inr f ↦ let no_ = f.1 in cc
   ]
 ]

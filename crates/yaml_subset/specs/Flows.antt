@@ -8,10 +8,10 @@ use Rattle.yaml_subset.specs.declared.token.Token.TheVariants.{OpenList, OpenMap
 mutual
   -- tokens spell a flow: a list or a map between its brackets. So many lists and maps nest at most, the flow itself among them
   pub data Flow : ℕ → List Token → Doc → Type 0 where
-    flow_list : {room : ℕ} {goes_on : Bool} {inner : List Token} {ds : List Doc}
-        → FlowItems room goes_on inner ds → Flow (suc room) (OpenList ∷ (inner ++ CloseList ∷ [])) (list (docs_of ds))
-    flow_map : {room : ℕ} {goes_on : Bool} {inner : List Token} {ps : List (List ℕ × Doc)}
-        → FlowEntries room goes_on inner ps → Flow (suc room) (OpenMap ∷ (inner ++ CloseMap ∷ [])) (dict (pairs_of ps))
+    flow_list : {room : ℕ} {may_come : Bool} {inner : List Token} {ds : List Doc}
+        → FlowItems room may_come inner ds → Flow (suc room) (OpenList ∷ (inner ++ CloseList ∷ [])) (list (docs_of ds))
+    flow_map : {room : ℕ} {may_come : Bool} {inner : List Token} {ps : List (List ℕ × Doc)}
+        → FlowEntries room may_come inner ps → Flow (suc room) (OpenMap ∷ (inner ++ CloseMap ∷ [])) (dict (pairs_of ps))
 
   -- tokens spell a value in a flow: a scalar, or a flow
   pub data FlowValue : ℕ → List Token → Doc → Type 0 where
