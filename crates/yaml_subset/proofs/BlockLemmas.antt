@@ -7,7 +7,7 @@ use Rattle.std.specs.List.{AllByRecursion}
 use Rattle.std.specs.List.Sorted.{IsStrictlySortedBy}
 use Rattle.std.specs.Map.{keys_of}
 use Rattle.std.specs.Ordering.{ordering_reverse}
-use Rattle.doc_tree.specs.Doc.{Doc, null, boolean, whole, words, list, dict, Docs, no_docs, then_doc, Pairs, no_pairs, then_pair, docs_of, docs_list, pairs_of, pairs_list, depth, docs_depth, pairs_depth}
+use Rattle.doc_tree.specs.Doc.{Doc, null, boolean, whole, words, list, dict, Docs, no_docs, then_doc, Pairs, no_pairs, then_pair, docs_list, pairs_of, pairs_list, depth, docs_depth, pairs_depth}
 use Rattle.doc_tree.specs.Part.{pair_at, with_pair}
 use Rattle.doc_tree.specs.Valid.{IsDoc, AreDocs, ArePairs, InOrder}
 use Rattle.doc_tree.proofs.Docs.{docs_of-docs_list, pairs_of-pairs_list}

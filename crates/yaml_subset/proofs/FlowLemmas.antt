@@ -7,7 +7,7 @@ use Rattle.yaml_subset.specs.Tokens.{next_token, token_at, tokens}
 use Rattle.yaml_subset.specs.declared.token.Token.{Token}
 use Rattle.yaml_subset.specs.declared.flow.Flowing.{Flowing}
 
-run_none : (ts : List Token) → flow_run None ts ≡ None
+pub run_none : (ts : List Token) → flow_run None ts ≡ None
 run_none [] = refl
 run_none (t ∷ ts) = run_none ts
 

@@ -15,6 +15,7 @@ use Rattle.yaml_subset.specs.declared.flow.Bracket.{Bracket}
 use Rattle.yaml_subset.specs.declared.flow.Bracket.TheVariants.{InList, InMap}
 use Rattle.yaml_subset.specs.declared.flow.Flowing.{Flowing}
 use Rattle.yaml_subset.specs.declared.flow.Flowing.TheVariants.{Before, Within, Over}
+use Rattle.yaml_subset.proofs.FlowLemmas.{run_none}
 
 -- ---- what was read
 
@@ -177,10 +178,6 @@ step_goes t (Within w) u h = within_goes t w.want w.bracket w.below u h
 step_goes t (Over d) u h = next_none (u ++ t ∷ [])
 
 -- ---- tokens, one by one
-
-run_none : (ts : List Token) → flow_run None ts ≡ None
-run_none [] = refl
-run_none (t ∷ ts) = run_none ts
 
 behind_step : (o : Option Flowing) (ts u : List Token) → ((s : Flowing) → o ≡ Some s → Next (flow_run (Some s) ts) u) → Next (flow_run o ts) u
 behind_step None ts u goes = λ t is. absurd (let none = sym is ∙ run_none ts in cc)
