@@ -7,10 +7,10 @@ use Rattle.std.specs.Prelude.{⊤}
 use Rattle.doc_tree.specs.Doc.{Doc, words}
 use Rattle.yaml_subset.specs.Signs.{has_tab, is_marker, is_opening, is_passed}
 use Rattle.yaml_subset.specs.Literal.{a_held, belongs, fits, held_text}
-use Rattle.yaml_subset.specs.Layout.{a_sign, is_lone, lays, mark_of, marks_of, outside}
+use Rattle.yaml_subset.specs.Layout.{is_lone, mark_of, marks_of}
 use Rattle.yaml_subset.specs.Machine.{fill, finish, inside, place, room_of, run, step, wants}
 use Rattle.yaml_subset.specs.declared.blocks.Frame.{Frame}
-use Rattle.yaml_subset.specs.Reader.{a_reader, end_of, enters, first_reader, held_mark, outside_step, place_end, place_step, read_lines, read_step, said_step, taken_lines}
+use Rattle.yaml_subset.specs.Reader.{a_reader, a_sign, end_of, enters, first_reader, held_mark, outside_step, place_end, place_step, read_lines, read_step, said_step, taken_lines}
 use Rattle.yaml_subset.specs.Said.{said_at}
 use Rattle.yaml_subset.specs.Spells.{Begins, IsLine, SpellsLines, kind_of}
 use Rattle.yaml_subset.specs.declared.fault.FaultKind.{FaultKind}
@@ -23,6 +23,7 @@ use Rattle.yaml_subset.specs.declared.reader.Place.{Place}
 use Rattle.yaml_subset.specs.declared.reader.Place.TheVariants as at_place
 use Rattle.yaml_subset.specs.declared.reader.Reader.{Reader}
 use Rattle.yaml_subset.proofs.MachineLemmas.{land_stops}
+use Rattle.yaml_subset.proofs.Laid.{lays, outside}
 use Rattle.yaml_subset.proofs.LinesLemmas.{lines_are, lines_none, total}
 use Rattle.yaml_subset.proofs.Reading.{comes_spells, spells_comes}
 

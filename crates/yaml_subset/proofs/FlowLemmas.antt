@@ -2,11 +2,12 @@
 use Rattle.std.proofs.Common.{◌≡◌, ◌==◌, ◌≢◌, ℕ, false, List, [], ◌∷◌, Option, Some, None, option_map, option_and_then, refl, ap, ap₂, sym, ◌∙◌, arith}
 use Rattle.std.proofs.lemmas.Bool.Decides.{nat_tests}
 use Rattle.doc_tree.specs.Doc.{Doc}
-use Rattle.yaml_subset.specs.Flow.{flow_from, flow_over, flow_run, flow_step, next_token, token_at, tokens, with_token}
+use Rattle.yaml_subset.specs.Flow.{flow_from, flow_over, flow_run, flow_step, with_token}
+use Rattle.yaml_subset.specs.Tokens.{next_token, token_at, tokens}
 use Rattle.yaml_subset.specs.declared.token.Token.{Token}
 use Rattle.yaml_subset.specs.declared.flow.Flowing.{Flowing}
 
-run_none : (ts : List Token) → flow_run None ts ≡ None
+pub run_none : (ts : List Token) → flow_run None ts ≡ None
 run_none [] = refl
 run_none (t ∷ ts) = run_none ts
 

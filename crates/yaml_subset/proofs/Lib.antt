@@ -9,7 +9,12 @@ pub mod ScalarLemmas
 pub mod QuotedLemmas
 pub mod TextsLemmas
 pub mod FlowLemmas
+pub mod FlowRuns
+pub mod FlowSound
 pub mod SaidLemmas
+pub mod SaysLemmas
+pub mod Laid
+pub mod LaysLemmas
 pub mod Utf8Lemmas
 pub mod LiteralLemmas
 pub mod LinesLemmas

@@ -4,9 +4,9 @@ use Rattle.std.specs.Prelude.{⊤}
 use Rattle.doc_tree.specs.Doc.{Doc, words}
 use Rattle.yaml_subset.specs.Signs.{has_tab, is_marker, is_opening, is_passed}
 use Rattle.yaml_subset.specs.Literal.{a_held, add, belongs, fits, literal_text, own_indent}
-use Rattle.yaml_subset.specs.Layout.{Mode, outside, within, a_sign, is_lone, lays, lays_line, lays_said, literal_mark, mark_of, marks_of, mode_of, next_mode}
+use Rattle.yaml_subset.specs.Layout.{is_lone, mark_of, marks_of}
 use Rattle.yaml_subset.specs.Machine.{finish, run, step, wants}
-use Rattle.yaml_subset.specs.Reader.{a_reader, end_of, enters, held_mark, outside_step, read_lines, said_step, within_step}
+use Rattle.yaml_subset.specs.Reader.{a_reader, a_sign, end_of, enters, held_mark, outside_step, read_lines, said_step, within_step}
 use Rattle.yaml_subset.specs.Said.{said_at}
 use Rattle.yaml_subset.specs.declared.mark.Mark.{Mark}
 use Rattle.yaml_subset.specs.declared.said.Rest.{Rest}
@@ -18,6 +18,7 @@ use Rattle.yaml_subset.specs.declared.reader.Place.{Place}
 use Rattle.yaml_subset.specs.declared.reader.Place.TheVariants.{Outside, Within}
 use Rattle.yaml_subset.specs.declared.reader.Reader.{Reader}
 use Rattle.yaml_subset.proofs.MachineLemmas.{run_append, run_none, step_unwanted}
+use Rattle.yaml_subset.proofs.Laid.{Mode, outside, within, lays, lays_line, lays_said, literal_mark, mode_of, next_mode}
 use Rattle.yaml_subset.proofs.Reading.{marks_end}
 use Rattle.yaml_subset.proofs.LiteralLemmas.{adds_more, held_indent, held_of, literal_is}
 

@@ -1,12 +1,12 @@
 -- Where marks spell a document, the machine comes to it.
-use Rattle.std.proofs.Common.{◌≡◌, ◌-◌, ◌+◌, ◌<◌, ◌≤◌, ℕ, suc, Bool, true, false, nat_eq, nat_lt, nat_le, List, [], ◌∷◌, ◌++◌, Option, Some, None, option_map, if◌then◌else◌, inl, inr, refl, ap, sym, subst, ◌∙◌, arith, append_assoc, append-nil}
+use Rattle.std.proofs.Common.{◌≡◌, ◌-◌, ◌+◌, ◌<◌, ◌≤◌, ℕ, suc, Bool, true, false, nat_eq, nat_lt, nat_le, List, [], ◌∷◌, ◌++◌, Option, Some, None, option_map, if◌then◌else◌, inl, inr, refl, ap, sym, ◌∙◌, arith, append_assoc, append-nil}
 use Rattle.std.proofs.lemmas.Bool.{cases_Bool, lt-ltb, le-ltb, le-leb, lt-leb, ne_eqb, eq-eqb}
 use Rattle.std.proofs.lemmas.Bool.Decides.{nat_tests}
 use Rattle.std.specs.Prelude.{⊤}
 use Rattle.doc_tree.specs.Doc.{Doc, null, list, dict, docs_of, pairs_of, depth}
-use Rattle.doc_tree.specs.Part.{pair_at, with_pair}
-use Rattle.yaml_subset.specs.Machine.{an_open_list, an_open_map, closes, fill, finish, frame_doc, inside, land, place, room_of, run, step}
-use Rattle.yaml_subset.specs.Nodes.{Node, nothing, value, block, Block, block_list, block_map, Items, first_item, next_item, Entries, first_entry, next_entry, SpellsMarks, empty, alone, whole}
+use Rattle.doc_tree.specs.Part.{pair_at}
+use Rattle.yaml_subset.specs.Machine.{an_open_list, an_open_map, closes, fill, finish, inside, land, place, room_of, run, step}
+use Rattle.yaml_subset.specs.Nodes.{Node, nothing, value, block, Block, block_list, block_map, Items, first_item, next_item, Entries, first_entry, next_entry, SpellsMarks, empty, alone, one_block}
 use Rattle.yaml_subset.specs.declared.mark.Mark.{Mark}
 use Rattle.yaml_subset.specs.declared.mark.Mark.TheVariants.{Dash, Key, Value, Bare}
 use Rattle.yaml_subset.specs.declared.blocks.Frame.{Frame}
@@ -194,4 +194,4 @@ block_begins (block_map {room = room} {column = c} {marks = u} {ps = ps} right e
 pub marks_run : (u : List Mark) (d : Doc) → SpellsMarks u d → ends (Some Start) u ≡ Some d
 marks_run u d empty = refl
 marks_run u d (alone shallow) = ap (λ (t : Bool). option_map finish (if t then Some (Alone d) else None)) (le-leb (depth d) 100 shallow)
-marks_run u d (whole b) = block_begins b refl
+marks_run u d (one_block b) = block_begins b refl

@@ -1,12 +1,11 @@
 -- Where the machine comes to a document, the marks spell it.
-use Rattle.std.proofs.Common.{◌≡◌, ◌-◌, ◌+◌, ◌&&◌, ◌<◌, ◌≤◌, ℕ, zero, suc, Bool, true, false, nat_eq, nat_lt, nat_le, is_some, List, [], ◌∷◌, ◌++◌, Option, Some, None, option_map, option_and_then, if◌then◌else◌, inl, inr, refl, ap, sym, subst, ◌∙◌, arith, append_assoc, append-nil}
-use Rattle.std.proofs.lemmas.Bool.{and_parts, cases_Bool}
+use Rattle.std.proofs.Common.{◌≡◌, ◌-◌, ◌≤◌, ℕ, suc, Bool, true, false, nat_eq, nat_lt, nat_le, is_some, List, [], ◌∷◌, ◌++◌, Option, Some, None, option_map, if◌then◌else◌, refl, ap, sym, subst, ◌∙◌, arith, append_assoc, append-nil}
 use Rattle.std.proofs.lemmas.Bool.Decides.{nat_tests}
 use Rattle.std.proofs.lemmas.Option.{same_Some}
 use Rattle.doc_tree.specs.Doc.{Doc, null, list, dict, docs_of, pairs_of, depth}
 use Rattle.doc_tree.specs.Part.{pair_at, with_pair}
 use Rattle.yaml_subset.specs.Machine.{an_open_list, an_open_map, close_all, closes, fill, finish, frame_doc, inside, land, next_key, opens_list, opens_map, place, room_of, run, settle, settled_pairs, step}
-use Rattle.yaml_subset.specs.Nodes.{Node, nothing, value, block, Block, block_list, block_map, Items, first_item, next_item, Entries, first_entry, next_entry, SpellsMarks, empty, alone, whole}
+use Rattle.yaml_subset.specs.Nodes.{Node, nothing, value, block, Block, block_list, block_map, Items, first_item, next_item, Entries, first_entry, next_entry, SpellsMarks, empty, alone, one_block}
 use Rattle.yaml_subset.specs.declared.mark.Mark.{Mark}
 use Rattle.yaml_subset.specs.declared.mark.Mark.TheVariants.{Dash, Key, Value, Bare}
 use Rattle.yaml_subset.specs.declared.blocks.Frame.{Frame}
@@ -219,10 +218,10 @@ run_goes (m ∷ ms) s u h =
 close_spells : (below : List Frame) (f : Frame) (front own : List Mark) → Around below f front → Shut f own → SpellsMarks (front ++ own) (close_all (frame_doc f) below)
 close_spells [] (InList f) front own a shut =
     let room : suc f.room ≡ 100 = omega (arith, a.1) in
-    subst (λ (l : List Mark). SpellsMarks (l ++ own) (list (docs_of f.trees))) (sym a.0) (whole (subst (λ (n : ℕ). Block n 0 0 own (list (docs_of f.trees))) room (block_list (omega arith) shut)))
+    subst (λ (l : List Mark). SpellsMarks (l ++ own) (list (docs_of f.trees))) (sym a.0) (one_block (subst (λ (n : ℕ). Block n 0 0 own (list (docs_of f.trees))) room (block_list (omega arith) shut)))
 close_spells [] (InMap f) front own a shut =
     let room : suc f.room ≡ 100 = omega (arith, a.1) in
-    subst (λ (l : List Mark). SpellsMarks (l ++ own) (dict (pairs_of f.pairs))) (sym a.0) (whole (subst (λ (n : ℕ). Block n 0 0 own (dict (pairs_of f.pairs))) room (block_map (omega arith) shut)))
+    subst (λ (l : List Mark). SpellsMarks (l ++ own) (dict (pairs_of f.pairs))) (sym a.0) (one_block (subst (λ (n : ℕ). Block n 0 0 own (dict (pairs_of f.pairs))) room (block_map (omega arith) shut)))
 close_spells (g ∷ below) f front own a shut =
     let (outer, mine, same, around, due, room, fits) = a in
     let again = close_spells below (fill (frame_doc f) g) outer (mine ++ own) (around_fill below (frame_doc f) g outer around) (due own (frame_doc f) (shut_node f g own shut room fits)) in

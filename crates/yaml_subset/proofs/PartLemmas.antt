@@ -6,7 +6,8 @@ use Rattle.doc_tree.specs.Doc.{Doc, null, boolean, whole, words, list, dict, no_
 use Rattle.doc_tree.specs.Valid.{IsDoc}
 use Rattle.yaml_subset.specs.Quoted.{text_in}
 use Rattle.yaml_subset.specs.Scalar.{is_plain, plain_doc}
-use Rattle.yaml_subset.specs.Said.{a_said, content, content_with, is_colon, key_of, literal_of, plain_key, quoted_key, quoted_value, rest_of, said_at, value_doc}
+use Rattle.yaml_subset.specs.Said.{content, content_with, literal_of, quoted_value, rest_of, said_at, value_doc}
+use Rattle.yaml_subset.specs.Says.{a_said, is_colon, key_of, plain_key, quoted_key}
 use Rattle.yaml_subset.specs.Signs.{colon_at, is_apart, is_marker, is_quote, is_tail, later, trimmed}
 use Rattle.yaml_subset.specs.Written.{escaped, is_bare, is_block, is_inner, scalar_text, words_text}
 use Rattle.yaml_subset.specs.declared.mark.Mark.{Mark}
@@ -34,14 +35,14 @@ pub record Reads (text : List ℕ) (d : Doc) : Type 0 where
   pub marker : is_marker (first ∷ after) ≡ false
   pub inline : list_all is_inline text ≡ true
 
-rest_at : (b : ℕ) (text : List ℕ) (d : Doc) → (b == 32) ≡ false → (b == 35) ≡ false → (b == 124) ≡ false → value_doc b text ≡ Some d → rest_of (b ∷ text) ≡ Some (Scalar d)
+pub rest_at : (b : ℕ) (text : List ℕ) (d : Doc) → (b == 32) ≡ false → (b == 35) ≡ false → (b == 124) ≡ false → value_doc b text ≡ Some d → rest_of (b ∷ text) ≡ Some (Scalar d)
 rest_at b text d space hash bar value =
     cond-false (b == 32) (rest_of text) _ space ∙ cond-false (b == 35) (Some Nothing) _ hash ∙ cond-false (b == 124) (literal_of text) _ bar ∙ ap (option_map Scalar) value
 
 pub rest_back : (text : List ℕ) (d : Doc) → Reads text d → rest_of text ≡ Some (Scalar d)
 rest_back text d r = ap rest_of r.is ∙ rest_at r.first r.after d r.space r.hash r.bar r.value
 
-said_content : (above c b : ℕ) (text : List ℕ) → (b == 32) ≡ false → (b == 35) ≡ false → (b == 45 && is_apart text) ≡ false → said_at above c (b ∷ text) ≡ content above c (b ∷ text)
+pub said_content : (above c b : ℕ) (text : List ℕ) → (b == 32) ≡ false → (b == 35) ≡ false → (b == 45 && is_apart text) ≡ false → said_at above c (b ∷ text) ≡ content above c (b ∷ text)
 said_content above c b text space hash dash = cond-false (b == 32) _ _ space ∙ cond-false (b == 35) _ _ hash ∙ cond-false (b == 45 && is_apart text) _ _ dash
 
 pub said_back : (above c : ℕ) (text : List ℕ) (d : Doc) → Reads text d → said_at above c text ≡ Some (a_said [] above (Scalar d))
@@ -177,7 +178,7 @@ apart_if : (t : Bool) (text : List ℕ) → is_apart (if t then [] else 32 ∷ t
 apart_if true text = refl
 apart_if false text = refl
 
-apart_trimmed : (rest : List ℕ) → is_apart rest ≡ true → is_apart (trimmed rest) ≡ true
+pub apart_trimmed : (rest : List ℕ) → is_apart rest ≡ true → is_apart (trimmed rest) ≡ true
 apart_trimmed [] apart = refl
 apart_trimmed (b ∷ rest) apart = subst (λ (n : ℕ). is_apart (trimmed (n ∷ rest)) ≡ true) (sym (eqb-true b 32 apart)) (apart_if (is_tail (32 ∷ rest)) (trimmed rest))
 

@@ -1,14 +1,14 @@
 -- What a text spells is what it is read to.
 use Rattle.std.proofs.Common.{◌≡◌, ℕ, true, List, Option, Some, None, option_map, option_and_then, refl, ap, sym, ◌∙◌}
 use Rattle.std.proofs.lemmas.Option.{same_Some}
-use Rattle.std.specs.Str.Lines.{lines}
 use Rattle.doc_tree.specs.Doc.{Doc}
-use Rattle.yaml_subset.specs.Layout.{lays, outside}
 use Rattle.yaml_subset.specs.Machine.{finish, run}
-use Rattle.yaml_subset.specs.Spells.{Spells, SpellsLines}
+use Rattle.yaml_subset.specs.Spells.{SpellsLines}
 use Rattle.yaml_subset.specs.declared.mark.Mark.{Mark}
 use Rattle.yaml_subset.specs.declared.blocks.Blocks.{Blocks}
 use Rattle.yaml_subset.specs.declared.blocks.Blocks.TheVariants.{Start}
+use Rattle.yaml_subset.proofs.Laid.{lays, outside}
+use Rattle.yaml_subset.proofs.LaysLemmas.{are_lays, lays_are}
 use Rattle.yaml_subset.proofs.NodeRuns.{marks_run}
 use Rattle.yaml_subset.proofs.NodeSound.{run_marks}
 
@@ -21,14 +21,14 @@ abbrev pub Comes : List (List ℕ) → Doc → Type 0
 Comes all d = marks_end Start (lays (outside true) all) ≡ Some d
 
 pub spells_comes : (all : List (List ℕ)) (d : Doc) → SpellsLines all d → Comes all d
-spells_comes all d (marks, laid, spells) = ap (marks_end Start) laid ∙ marks_run marks d spells
+spells_comes all d (marks, laid, spells) = ap (marks_end Start) (lays_are laid) ∙ marks_run marks d spells
 
 pub comes_spells : (all : List (List ℕ)) (d : Doc) → Comes all d → SpellsLines all d
 comes_spells all d comes = cases (lays (outside true) all) refl
   where
     cases : (o : Option (List Mark)) → lays (outside true) all ≡ o → SpellsLines all d
     cases None none = absurd (let no_ = sym comes ∙ ap (marks_end Start) none in cc)
-    cases (Some marks) laid = (marks, laid, run_marks marks d (sym (ap (marks_end Start) laid) ∙ comes))
+    cases (Some marks) laid = (marks, are_lays true all marks laid, run_marks marks d (sym (ap (marks_end Start) laid) ∙ comes))
 
 -- lines spell at most one document
 pub spells_one : (all : List (List ℕ)) (d e : Doc) → SpellsLines all d → SpellsLines all e → d ≡ e

@@ -1,25 +1,26 @@
 -- The text of a tree spells that tree.
-use Rattle.std.proofs.Common.{◌≡◌, ◌==◌, ◌+◌, ◌≤◌, ◌&&◌, ◌||◌, ℕ, zero, suc, Bool, true, false, bytes_eq, codes, List, [], ◌∷◌, ◌++◌, Option, Some, None, option_map, if◌then◌else◌, inl, inr, refl, ap, sym, subst, ◌∙◌, arith, append_assoc, append-nil}
-use Rattle.std.proofs.lemmas.Bool.{and_right, or_parts, or_from, cond-true, cond-false, cases_Bool, both_ways, le-leb}
+use Rattle.std.proofs.Common.{◌≡◌, ◌==◌, ◌+◌, ◌≤◌, ◌&&◌, ◌||◌, ℕ, zero, suc, Bool, true, false, bytes_eq, codes, List, [], ◌∷◌, ◌++◌, Option, Some, None, option_map, inl, inr, refl, ap, sym, subst, ◌∙◌, arith, append_assoc, append-nil}
+use Rattle.std.proofs.lemmas.Bool.{and_right, or_parts, or_from, cond-true, cond-false, cases_Bool, both_ways}
 use Rattle.std.specs.List.{list_all}
 use Rattle.std.specs.Str.Lines.{lines}
 use Rattle.doc_tree.specs.Doc.{Doc, null, boolean, whole, words, list, dict, Docs, no_docs, then_doc, Pairs, no_pairs, then_pair, depth}
 use Rattle.doc_tree.specs.Valid.{IsDoc, AreDocs, ArePairs}
-use Rattle.yaml_subset.specs.Layout.{is_lone, lays, lays_said, next_mode, outside, rest_marks}
-use Rattle.yaml_subset.specs.Machine.{finish, run}
-use Rattle.yaml_subset.specs.Said.{a_said, said_at}
+use Rattle.yaml_subset.specs.Layout.{is_lone, rest_marks}
+use Rattle.yaml_subset.specs.Nodes.{alone}
+use Rattle.yaml_subset.specs.Said.{said_at}
+use Rattle.yaml_subset.specs.Says.{a_said}
 use Rattle.yaml_subset.specs.Signs.{has_tab, is_marker, is_opening, is_passed, spaces}
 use Rattle.yaml_subset.specs.Spells.{Spells}
 use Rattle.yaml_subset.specs.Written.{block_text, deeper, is_block, items_text, node_text, pairs_text, scalar_text, words_text, written}
 use Rattle.yaml_subset.specs.declared.mark.Mark.{Mark}
-use Rattle.yaml_subset.specs.declared.mark.Mark.TheVariants.{Dash, Key, Value}
+use Rattle.yaml_subset.specs.declared.mark.Mark.TheVariants.{Bare, Dash, Key, Value}
 use Rattle.yaml_subset.specs.declared.said.Rest.{Rest}
 use Rattle.yaml_subset.specs.declared.said.Rest.TheVariants.{Nothing, Scalar}
-use Rattle.yaml_subset.specs.declared.blocks.Blocks.TheVariants.{Alone, Start}
-use Rattle.yaml_subset.proofs.BlockLemmas.{block_runs, items_marks, pairs_marks, part_marks}
+use Rattle.yaml_subset.proofs.BlockLemmas.{block_marks, items_marks, pairs_marks, part_marks}
 use Rattle.yaml_subset.proofs.CutLemmas.{all_append, is_inline, next_line}
+use Rattle.yaml_subset.proofs.Laid.{lays, lays_said, next_mode, outside}
 use Rattle.yaml_subset.proofs.PartLemmas.{IsHead, Reads, dash_head, key_head, said_back, scalar_reads}
-use Rattle.yaml_subset.proofs.Reading.{comes_spells, marks_end}
+use Rattle.yaml_subset.proofs.LaysLemmas.{are_lays}
 use Rattle.yaml_subset.proofs.SignsLemmas.{passed_spaces}
 
 -- ---- lines behind their indent
@@ -200,17 +201,15 @@ mutual
 
 block_spells : (d : Doc) → IsDoc d → depth d ≤ 100 → is_block d ≡ true → Spells (block_text [] d) d
 block_spells d v shallow block =
-    comes_spells (lines (block_text [] d)) d
-    (ap (λ (t : List ℕ). marks_end Start (lays (outside true) (lines t))) (sym (append-nil (block_text [] d)))
-    ∙ ap (marks_end Start) (block_lays d 0 [] true v block) ∙ ap (λ (ms : List Mark). option_map finish (run (Some Start) ms)) (append-nil (part_marks 0 d)) ∙ block_runs d v block shallow)
+    let found = ap (λ (t : List ℕ). lays (outside true) (lines t)) (sym (append-nil (block_text [] d))) ∙ block_lays d 0 [] true v block ∙ ap Some (append-nil (part_marks 0 d)) in
+    (part_marks 0 d, are_lays true (lines (block_text [] d)) (part_marks 0 d) found, block_marks d v block shallow)
 
 scalar_spells : (d : Doc) → IsDoc d → depth d ≤ 100 → is_block d ≡ false → Spells (scalar_text d ++ 10 ∷ []) d
 scalar_spells d v shallow no_ =
     let r = scalar_reads d v no_ in
     let starts : Starts (scalar_text d) = record { first = r.first; after = r.after; is = r.is; space = r.space; hash = r.hash; tab = r.tab } in
-    comes_spells (lines (scalar_text d ++ 10 ∷ [])) d
-    (ap (marks_end Start) (text_lays 0 (scalar_text d) [] true [] 0 (Scalar d) starts r.inline (ap is_marker r.is ∙ r.marker) (said_back 0 0 (scalar_text d) d r) refl)
-    ∙ ap (λ (t : Bool). option_map finish (if t then Some (Alone d) else None)) (le-leb (depth d) 100 shallow))
+    let found = text_lays 0 (scalar_text d) [] true [] 0 (Scalar d) starts r.inline (ap is_marker r.is ∙ r.marker) (said_back 0 0 (scalar_text d) d r) refl in
+    (Bare d ∷ [], are_lays true (lines (scalar_text d ++ 10 ∷ [])) (Bare d ∷ []) found, alone shallow)
 
 -- the text of a tree that nests at most 100 deep spells that tree
 pub spells_written : (d : Doc) → IsDoc d → depth d ≤ 100 → Spells (written d) d

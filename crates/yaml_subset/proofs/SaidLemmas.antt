@@ -1,6 +1,7 @@
 -- Marks of a line, one more.
 use Rattle.std.proofs.Common.{◌≡◌, List, ◌++◌, Option, Some, None, refl, ap, append_assoc}
-use Rattle.yaml_subset.specs.Said.{a_said, behind_marks}
+use Rattle.yaml_subset.specs.Said.{behind_marks}
+use Rattle.yaml_subset.specs.Says.{a_said}
 use Rattle.yaml_subset.specs.declared.mark.Mark.{Mark}
 use Rattle.yaml_subset.specs.declared.said.Said.{Said}
 

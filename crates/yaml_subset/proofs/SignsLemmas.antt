@@ -3,7 +3,7 @@ use Rattle.std.proofs.Common.{◌≡◌, ◌==◌, ◌+◌, ℕ, zero, suc, Bool
 use Rattle.std.proofs.lemmas.Bool.{eqb-true}
 use Rattle.std.proofs.lemmas.Bool.Decides.{nat_tests}
 use Rattle.yaml_subset.specs.Signs.{ended, is_flow_sign, is_passed, is_tail, later, spaces, trimmed}
-use Rattle.yaml_subset.specs.Flow.{before_sign}
+use Rattle.yaml_subset.specs.Tokens.{before_sign}
 
 pub later_more : (i : ℕ) (o : Option ℕ) → later i (later 1 o) ≡ later (i + 1) o
 later_more i None = refl

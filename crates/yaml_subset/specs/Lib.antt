@@ -4,8 +4,12 @@ pub mod Nodes
 pub mod Machine
 pub mod Quoted
 pub mod Scalar
+pub mod Tokens
+pub mod Flows
 pub mod Flow
+pub mod Says
 pub mod Said
+pub mod LeftOut
 pub mod Literal
 pub mod Layout
 pub mod Reader

@@ -38,4 +38,4 @@ mutual
 pub data SpellsMarks : List Mark → Doc → Type 0 where
   empty : SpellsMarks [] null
   alone : {d : Doc} → depth d ≤ 100 → SpellsMarks (Bare d ∷ []) d
-  whole : {marks : List Mark} {d : Doc} → Block 100 0 0 marks d → SpellsMarks marks d
+  one_block : {marks : List Mark} {d : Doc} → Block 100 0 0 marks d → SpellsMarks marks d

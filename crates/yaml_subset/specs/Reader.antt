@@ -3,7 +3,7 @@ use Rattle.std.specs.Prelude.{ℕ, suc, Bool, true, false, ◌&&◌, ◌||◌, i
 use Rattle.doc_tree.specs.Doc.{Doc, words}
 use Rattle.yaml_subset.specs.Signs.{has_tab, is_marker, is_opening, is_passed}
 use Rattle.yaml_subset.specs.Literal.{a_held, add, belongs, fits, held_text}
-use Rattle.yaml_subset.specs.Layout.{a_sign, is_lone, mark_of, marks_of}
+use Rattle.yaml_subset.specs.Layout.{is_lone, mark_of, marks_of}
 use Rattle.yaml_subset.specs.Machine.{finish, run, step, wants}
 use Rattle.yaml_subset.specs.Said.{said_at}
 use Rattle.yaml_subset.specs.declared.mark.Mark.{Mark}
@@ -17,6 +17,10 @@ use Rattle.yaml_subset.specs.declared.blocks.Blocks.TheVariants.{Start}
 use Rattle.yaml_subset.specs.declared.reader.Place.{Place}
 use Rattle.yaml_subset.specs.declared.reader.Place.TheVariants.{Outside, Within}
 use Rattle.yaml_subset.specs.declared.reader.Reader.{Reader}
+
+-- how a literal is read: alone or not, with or without the line feed at its end, and the least indent of its lines
+abbrev pub a_sign : Bool → Bool → ℕ → Sign
+a_sign lone keeps above = record { lone = lone; keeps = keeps; above = above }
 
 abbrev pub a_reader : Place → Blocks → Reader
 a_reader place blocks = record { place = place; blocks = blocks }

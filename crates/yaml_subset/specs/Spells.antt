@@ -3,9 +3,9 @@ use Rattle.std.specs.Prelude.{◌≡◌, ◌<◌, ◌≤◌, ℕ, true, ◌-◌,
 use Rattle.std.specs.Str.Lines.{lines}
 use Rattle.doc_tree.specs.Doc.{Doc}
 use Rattle.yaml_subset.specs.Signs.{has_tab, is_marker}
-use Rattle.yaml_subset.specs.Layout.{lays, outside}
+use Rattle.yaml_subset.specs.Layout.{Lays}
 use Rattle.yaml_subset.specs.Nodes.{SpellsMarks}
-use Rattle.yaml_subset.specs.Said.{is_left_out, value_of}
+use Rattle.yaml_subset.specs.LeftOut.{is_left_out, value_of}
 use Rattle.yaml_subset.specs.declared.mark.Mark.{Mark}
 use Rattle.yaml_subset.specs.declared.fault.FaultKind.{FaultKind}
 use Rattle.yaml_subset.specs.declared.fault.FaultKind.TheVariants.{Tab, LeftOut, Form}
@@ -14,7 +14,7 @@ use Rattle.yaml_subset.specs.declared.fault.YamlFault.TheVariants.{Refused, NoMe
 
 -- the lines spell the document: their marks do
 abbrev pub SpellsLines : List (List ℕ) → Doc → Type 0
-SpellsLines all d = (marks : List Mark) × (lays (outside true) all ≡ Some marks) × SpellsMarks marks d
+SpellsLines all d = (marks : List Mark) × Lays true all marks × SpellsMarks marks d
 
 -- the text spells the document
 abbrev pub Spells : List ℕ → Doc → Type 0

@@ -1,7 +1,8 @@
 //! Flow lists and maps, which are read token by token, without recursion.
 ghost use Rattle.doc_tree.specs.Doc.{dict, list, docs_of, pairs_of};
 ghost use Rattle.std.specs.Prelude.{◌≡◌, ◌∷◌, [], IfOk, Some};
-ghost use Rattle.yaml_subset.specs.Flow.{closed, closes_list, closes_map, flow_begins, flow_doc, flow_from, flow_over, flow_step, flow_within, goes_on, names, opens, put, takes, token_at, with_token, within};
+ghost use Rattle.yaml_subset.specs.Flow.{closed, closes_list, closes_map, flow_begins, flow_doc, flow_from, flow_over, flow_step, flow_within, goes_on, names, opens, put, takes, with_token, within};
+ghost use Rattle.yaml_subset.specs.Tokens.{token_at};
 ghost use Rattle.yaml_subset.specs.declared.token.Token.TheVariants as token_of;
 
 use crate::document::Document;

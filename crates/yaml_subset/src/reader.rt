@@ -1,9 +1,9 @@
 //! How a text is read line by line.
 ghost use Rattle.std.specs.Bool.{then_some};
 ghost use Rattle.std.specs.Prelude.{◌≡◌, IfOk, IsUtf8, Some, option_and_then};
-ghost use Rattle.yaml_subset.specs.Layout.{a_sign, is_lone, mark_of, marks_of, rest_marks};
+ghost use Rattle.yaml_subset.specs.Layout.{is_lone, mark_of, marks_of, rest_marks};
 ghost use Rattle.yaml_subset.specs.Machine.{run, step};
-ghost use Rattle.yaml_subset.specs.Reader.{a_reader, end_of, enters, first_reader, held_mark, outside_step, place_end, read_step, said_step, within_step};
+ghost use Rattle.yaml_subset.specs.Reader.{a_reader, a_sign, end_of, enters, first_reader, held_mark, outside_step, place_end, read_step, said_step, within_step};
 ghost use Rattle.yaml_subset.specs.declared.reader.Place.TheVariants as place_of;
 
 use crate::blocks::{Blocks, finish, step, wants};

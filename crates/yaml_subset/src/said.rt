@@ -1,7 +1,9 @@
 //! What a line says: dashes, a key, and what stands behind them.
 ghost use Rattle.std.specs.Prelude.{◌≡◌, ◌∷◌, ◌&&◌, ◌+◌, ◌<◌, ◌^◌, ◌==◌, IfOk, None, false, if◌then◌else◌, option_map};
 ghost use Rattle.yaml_subset.specs.Quoted.{quoted_text, text_in};
-ghost use Rattle.yaml_subset.specs.Said.{a_said, behind_key, behind_marks, content, is_colon, is_keeping, is_left_out, is_left_out_sign, is_refused_meaning, key_of, literal_of, plain_key, quoted_key, quoted_value, rest_of, said_at, value_doc, value_of};
+ghost use Rattle.yaml_subset.specs.LeftOut.{behind_key, is_keeping, is_left_out, is_left_out_sign, is_refused_meaning, value_of};
+ghost use Rattle.yaml_subset.specs.Said.{behind_marks, content, literal_of, quoted_value, rest_of, said_at, value_doc};
+ghost use Rattle.yaml_subset.specs.Says.{a_said, is_colon, key_of, plain_key, quoted_key};
 ghost use Rattle.yaml_subset.specs.Scalar.{is_plain, meaning};
 ghost use Rattle.yaml_subset.specs.Signs.{colon_at, is_apart};
 

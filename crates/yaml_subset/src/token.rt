@@ -2,7 +2,7 @@
 ghost use Rattle.std.specs.Prelude.{◌≡◌, ◌∷◌, ◌<◌, ◌≤◌, ◌^◌, IfOk, length};
 ghost use Rattle.yaml_subset.specs.Quoted.{quoted_text};
 ghost use Rattle.yaml_subset.specs.Signs.{colon_at};
-ghost use Rattle.yaml_subset.specs.Flow.{before_sign, behind_quotes, ends_scalar, is_key_end, plain_key, plain_token, quoted_token, scalar_token, sign_of, token_at};
+ghost use Rattle.yaml_subset.specs.Tokens.{before_sign, behind_quotes, ends_scalar, is_key_end, plain_key, plain_token, quoted_token, scalar_token, sign_of, token_at};
 
 use crate::document::Document;
 use crate::quoted::{begins, quoted_text};

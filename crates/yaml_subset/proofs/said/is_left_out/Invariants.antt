@@ -1,5 +1,5 @@
 use Rattle.std.proofs.Common.{◌≡◌, length}
-use Rattle.yaml_subset.specs.Said.{is_left_out}
+use Rattle.yaml_subset.specs.LeftOut.{is_left_out}
 use Rattle.yaml_subset.proofs.said.is_left_out.Given as goal
 
 abbrev pub invariant-loop-first : goal.invariant-loop-first

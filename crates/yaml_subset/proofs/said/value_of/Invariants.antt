@@ -1,5 +1,5 @@
 use Rattle.std.proofs.Common.{◌≡◌, length}
-use Rattle.yaml_subset.specs.Said.{value_of}
+use Rattle.yaml_subset.specs.LeftOut.{value_of}
 use Rattle.yaml_subset.proofs.said.value_of.Given as goal
 
 abbrev pub invariant-loop-first : goal.invariant-loop-first

@@ -1,5 +1,5 @@
 use Rattle.std.proofs.Common.{◌≡◌, ◌+◌, drop, length}
-use Rattle.yaml_subset.specs.Flow.{before_sign}
+use Rattle.yaml_subset.specs.Tokens.{before_sign}
 use Rattle.yaml_subset.proofs.token.sign_place.Given as goal
 
 abbrev pub invariant-loop-index : goal.invariant-loop-index
