@@ -229,7 +229,7 @@ def each_permission():
     yield ("GET", bag + "/i", "", (200, '{"id":"i"}'), by("mem"))
     yield ("PUT", bag + "/i", '{"z":1}', missing("update"), by("out"))
     yield ("PUT", bag + "/i", '{"z":1}', (200, '{"id":"i","z":1}'), by("act"))
-    yield ("DELETE", bag + "/i", "", missing("update"), by("out"))
+    yield ("DELETE", bag + "/i", "", missing("delete"), by("out"))
     yield ("GET", bag + "/i/_acl", "", NOT_FOUND)
     yield ("DELETE", bag, "", missing("delete"), by("out"))
     yield ("DELETE", bag + "/i", "", (200, '{"id":"i","z":1}'), by("mem"))
@@ -259,6 +259,31 @@ def each_permission():
     yield ("GET", D, "", (200, '{"name":"delta"}'), by("act"))
 
 
+def each_permission_of_a_bag():
+    """Of three users each has one permission on a bag and no other: which requests on it and its item he may make."""
+    bag, item = D + "/data/shared", D + "/data/shared/i"
+    yield ("POST", D + "/data", '{"name":"shared"}', uri(bag))
+    for name, word in (("reader", "read"), ("updater", "update"), ("deleter", "delete")):
+        yield ("POST", D + "/users", '{"username":"%s"}' % name, uri(D + "/users/" + name))
+        yield ("PUT", "%s/_acl/%s" % (bag, word), permission(word, [name]), (200, "{}"))
+    empty, first, second = "{}", '{"id":"i","k":1}', '{"id":"i","k":2}'
+    yield from one_may(("GET", bag, ""), "read", "reader", (200, empty))
+    yield from one_may(("POST", bag, first), "update", "updater", uri(item))
+    yield from one_may(("GET", bag, ""), "read", "reader", (200, '{"i":"%s"}' % item))
+    yield from one_may(("GET", item, ""), "read", "reader", (200, first))
+    yield from one_may(("PUT", item, second), "update", "updater", (200, second))
+    yield from one_may(("DELETE", item, ""), "delete", "deleter", (200, second))
+    yield from one_may(("GET", bag, ""), "read", "reader", (200, empty))
+    yield from one_may(("DELETE", bag, ""), "delete", "deleter", (200, '{"name":"shared"}'))
+    yield ("GET", bag, "", NOT_FOUND, by("reader"))
+
+
+def one_may(request, word, name, due):
+    """A request that the others are refused for want of this permission, and that this user may then make."""
+    for other in ("reader", "updater", "deleter"):
+        if other != name:
+            yield (*request, missing(word), by(other))
+    yield (*request, due, by(name))
 
 
 def permissions():
@@ -266,3 +291,4 @@ def permissions():
     yield from a_client_and_a_user()
     yield from groups_and_lists()
     yield from each_permission()
+    yield from each_permission_of_a_bag()

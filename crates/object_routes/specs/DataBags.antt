@@ -100,7 +100,8 @@ data_lacks context (operation.ShowItem bag id) = lacks_item bag id context.state
 data_lacks context (operation.ReplaceItem bag id item) = lacks_item bag id context.state
 data_lacks context (operation.RemoveItem bag id) = lacks_item bag id context.state
 
--- the permission: in the container's list to list and create bags, and in the bag's list else, for its items too
+-- the permission: in the container's list to list and create bags, and in the bag's list else, for its items too. To
+-- create and to replace an item is to update its bag; to remove one takes the permission to delete
 abbrev pub data_need : DataOperation → Need
 data_need operation.ListBags = Listed permission.Read (key kinds.Container (codes "data"))
 data_need (operation.CreateBag object) = Listed permission.Create (key kinds.Container (codes "data"))
@@ -109,7 +110,7 @@ data_need (operation.CreateItem bag item) = Listed permission.Update (key kinds.
 data_need (operation.RemoveBag bag) = Listed permission.Delete (key kinds.Bag bag)
 data_need (operation.ShowItem bag id) = Listed permission.Read (key kinds.Bag bag)
 data_need (operation.ReplaceItem bag id item) = Listed permission.Update (key kinds.Bag bag)
-data_need (operation.RemoveItem bag id) = Listed permission.Update (key kinds.Bag bag)
+data_need (operation.RemoveItem bag id) = Listed permission.Delete (key kinds.Bag bag)
 
 -- that permission alone
 abbrev pub data_needs : DataOperation → List Need

@@ -1,26 +1,32 @@
 //! The routes of data bags and their items.
 
-ghost use Rattle.std.specs.Prelude.{◌≡◌, ◌&&◌, Ok, IfOk};
+ghost use Rattle.std.specs.Prelude.{◌≡◌, [], ◌∷◌, ◌++◌, ◌&&◌, map, Ok, IfOk, OnOk};
+ghost use Rattle.access_lists.specs.declared.starting.Container.TheVariants as container;
 ghost use Rattle.doc_tree.specs.Name.{is_name};
 ghost use Rattle.object_store.specs.Items as items;
 ghost use Rattle.object_store.specs.Objects.{key};
 ghost use Rattle.org_core.specs.Contexts.{seen};
-ghost use Rattle.org_core.specs.Outcomes.{Finds};
+ghost use Rattle.org_core.specs.Creating.{created_by, with_list};
+ghost use Rattle.org_core.specs.Outcomes.{Finds, Looked, shows, tells};
 ghost use Rattle.org_core.specs.Refusals.{Tells, refuses};
+ghost use Rattle.org_core.specs.Replies.{paths_behind};
 ghost use Rattle.org_core.specs.States.{has_object, objects_of, state_in};
 ghost use Rattle.object_routes.specs.DataBags as spec;
 ghost use Rattle.object_routes.specs.Objects as objects;
 
-use crate::objects::{lacks_named, listed, name_of, remove, replace, show};
+use crate::objects::{
+    add_named, add_removal, lacks_named, listed, name_of, remove, replace, show, told_paths,
+};
 use crate::operations::DataOperation;
+use crate::prepared::{or_stop, with_moves};
 use access_lists::Container;
 use doc_tree::{Kind, NoMemory, Steps, Text, Tree, is_name};
 use object_finder::Finder;
 use object_store::Key;
 use org_core::{
     Body, Context, DataRoute, Group, Lent, Move, Moves, Need, Needs, OrgState, Perm, Prepared,
-    Refusal, Request, Stop, Stored, absent, add_with_list, create_by, joined, key_of, listed_need,
-    named_by, object_in_body, object_named, one_move, org_uri, shown_key, shown_paths,
+    Refusal, Request, Stop, Stored, absent, create_by, joined, listed_need, named_by,
+    object_in_body, object_named, one_move, org_uri, shown_key,
 };
 use route_table::Verb;
 use std::alloc::Global;
@@ -111,26 +117,18 @@ impl Group for DataBags {
         operation: DataOperation,
         steps: &mut Steps<L>,
     ) -> Result<Prepared, Stop> {
-        let state = context.state;
-        Ok(match operation {
-            DataOperation::ListBags => list_bags(alloc, context)?,
-            DataOperation::CreateBag(object) => create_bag(alloc, context, object)?,
-            DataOperation::ListItems(bag) => list_items(alloc, context, &bag)?,
-            DataOperation::CreateItem(bag, item) => create_item(alloc, context, &bag, item)?,
-            DataOperation::RemoveBag(bag) => remove_bag(alloc, bag, state)?,
-            DataOperation::ShowItem(bag, id) => {
-                show(alloc, state.item(bag.as_str(), id.as_str(), steps))?
-            }
+        match operation {
+            DataOperation::ListBags => list_bags(alloc, context),
+            DataOperation::CreateBag(object) => create_bag(alloc, context, object),
+            DataOperation::ListItems(bag) => list_items(alloc, context, bag),
+            DataOperation::CreateItem(bag, item) => create_item(alloc, context, bag, item),
+            DataOperation::RemoveBag(bag) => remove_bag(alloc, context, bag),
+            DataOperation::ShowItem(bag, id) => show_item(alloc, context, bag, id, steps),
             DataOperation::ReplaceItem(bag, id, item) => {
-                let _replaced = state.item(bag.as_str(), id.as_str(), steps);
-                replace(alloc, item_key(alloc, &bag, id.as_str())?, item)?
+                replace_item(alloc, context, bag, id, item, steps)
             }
-            DataOperation::RemoveItem(bag, id) => {
-                let key = item_key(alloc, &bag, id.as_str())?;
-                let moves = one_move(alloc, Move::TakeOut(key))?;
-                remove(alloc, state.item(bag.as_str(), id.as_str(), steps), moves)?
-            }
-        })
+            DataOperation::RemoveItem(bag, id) => remove_item(alloc, context, bag, id, steps),
+        }
     }
 }
 
@@ -217,15 +215,12 @@ fn needed(alloc: Global, operation: &DataOperation) -> Result<Need, NoMemory>
         DataOperation::ListItems(bag) | DataOperation::ShowItem(bag, _) => {
             listed_need(alloc, Perm::Read, Kind::Bag, bag.as_str())
         }
-        DataOperation::CreateItem(bag, _)
-        | DataOperation::ReplaceItem(bag, _, _)
-        | DataOperation::RemoveItem(bag, _) => listed_need(
-            alloc,
-            Perm::Update,
-            Kind::Bag,
-            bag.as_str(),
-        ),
-        DataOperation::RemoveBag(bag) => listed_need(alloc, Perm::Delete, Kind::Bag, bag.as_str()),
+        DataOperation::CreateItem(bag, _) | DataOperation::ReplaceItem(bag, _, _) => {
+            listed_need(alloc, Perm::Update, Kind::Bag, bag.as_str())
+        }
+        DataOperation::RemoveBag(bag) | DataOperation::RemoveItem(bag, _) => {
+            listed_need(alloc, Perm::Delete, Kind::Bag, bag.as_str())
+        }
     }
 }
 
@@ -249,58 +244,124 @@ fn item_refusal(bag: &Text, item: &Stored, state: &OrgState) -> Option<Refusal>
     }
 }
 
-fn list_bags(alloc: Global, context: Context<'_>) -> Result<Prepared, NoMemory>
-    ensures { IfOk result (λ p. Finds (Ok p) (spec.data_does (seen context.entry) DataOperation.ListBags).answer) }
+/// The bags are listed.
+fn list_bags(alloc: Global, context: Context<'_>) -> Result<Prepared, Stop>
+    ensures { Finds result (spec.data_does (seen context.entry) DataOperation.ListBags).answer }
 {
     let front = bags_front(alloc, context.org)?;
-    listed(alloc, &front, Kind::Bag, context.state)
+    or_stop(listed(alloc, &front, Kind::Bag, context.state))
 }
 
-fn create_bag(alloc: Global, context: Context<'_>, object: Stored) -> Result<Prepared, NoMemory>
-    ensures { IfOk result (λ p. Finds (Ok p) (spec.data_does (seen context.entry) (DataOperation.CreateBag object)).answer) }
+/// A bag is created.
+fn create_bag(alloc: Global, context: Context<'_>, object: Stored) -> Result<Prepared, Stop>
+    ensures { Finds result (spec.data_does (seen context.entry) (DataOperation.CreateBag object)).answer }
 {
-    let front = bags_front(alloc, context.org)?;
-    let path = joined(alloc, front.as_str(), name_of(&object))?;
-    let key = key_of(alloc, Kind::Bag, name_of(&object))?;
+    match bag_path(alloc, context.org, name_of(&object)) {
+        Ok(path) => or_stop(bag_created(alloc, context, path, object)),
+        Err(fault) => {
+            drop(object);
+            Err(Stop::from(fault))
+        }
+    }
+}
+
+fn bag_path(alloc: Global, org: &Text, name: &str) -> Result<Text, NoMemory>
+    ensures { IfOk result (λ path. path ≡ spec.bags_front org.now ++ name.now) }
+{
+    joined(alloc, bags_front(alloc, org)?.as_str(), name)
+}
+
+/// 201 with the path of a new bag, which comes with its access list.
+fn bag_created(
+    alloc: Global,
+    context: Context<'_>,
+    path: Text,
+    object: Stored,
+) -> Result<Prepared, NoMemory>
+    ensures { IfOk result (λ p. Finds (Ok p) (created_by path (with_list container.Data (seen context.entry) Kind.Bag (objects.name_of object) object)).answer) }
+{
     let mut moves = Moves::new(alloc);
-    add_with_list(alloc, context, Container::Data, key, object, &mut moves)?;
+    add_named(
+        alloc,
+        context,
+        Container::Data,
+        Kind::Bag,
+        object,
+        &mut moves,
+    )?;
     create_by(alloc, path, moves)
 }
 
-fn list_items(alloc: Global, context: Context<'_>, bag: &Text) -> Result<Prepared, NoMemory>
-    ensures { IfOk result (λ p. Finds (Ok p) (spec.data_does (seen context.entry) (DataOperation.ListItems bag.now)).answer) }
+/// A bag's items are listed.
+fn list_items(alloc: Global, context: Context<'_>, bag: Text) -> Result<Prepared, Stop>
+    ensures { Finds result (spec.data_does (seen context.entry) (DataOperation.ListItems bag)).answer }
 {
-    let ids = context.state.ids(alloc, bag.as_str())?;
-    let bags = bags_front(alloc, context.org)?;
-    let items = item_front(alloc, bag)?;
-    let front = joined(alloc, bags.as_str(), items.as_str())?;
-    let reply = shown_paths(alloc, front.as_str(), ids.as_slice())?;
-    Ok(Prepared {
-        reply,
-        moves: Moves::new(alloc),
-    })
+    let front = items_front(alloc, context.org, &bag)?;
+    or_stop(items_listed(alloc, &front, &bag, context.state))
 }
 
+fn items_front(alloc: Global, org: &Text, bag: &Text) -> Result<Text, NoMemory>
+    ensures { IfOk result (λ front. front ≡ spec.bags_front org.now ++ items.item_front bag.now) }
+{
+    let bags = bags_front(alloc, org)?;
+    joined(alloc, bags.as_str(), item_front(alloc, bag)?.as_str())
+}
+
+/// 200 with the ids of a bag's items, each with its path behind this front.
+fn items_listed(
+    alloc: Global,
+    front: &Text,
+    bag: &Text,
+    state: &OrgState,
+) -> Result<Prepared, NoMemory>
+    ensures { IfOk result (λ p. Finds (Ok p) (tells (shows (paths_behind front.now (items.ids_in bag.now (objects_of (state_in state.now)))))).answer) }
+{
+    let ids = state.ids(alloc, bag.as_str())?;
+    told_paths(alloc, front, ids.as_slice())
+}
+
+/// An item is created.
 fn create_item(
     alloc: Global,
     context: Context<'_>,
-    bag: &Text,
+    bag: Text,
     item: Stored,
-) -> Result<Prepared, NoMemory>
-    ensures { IfOk result (λ p. Finds (Ok p) (spec.data_does (seen context.entry) (DataOperation.CreateItem bag.now item)).answer) }
+) -> Result<Prepared, Stop>
+    ensures { Finds result (spec.data_does (seen context.entry) (DataOperation.CreateItem bag item)).answer }
 {
-    let front = bags_front(alloc, context.org)?;
-    let key = item_key(alloc, bag, id_of(&item))?;
-    let path = joined(alloc, front.as_str(), key.name.as_str())?;
-    create_by(alloc, path, one_move(alloc, Move::Put(key, item))?)
+    match item_place(alloc, context.org, &bag, id_of(&item)) {
+        Ok((path, key)) => or_stop(item_created(alloc, path, key, item)),
+        Err(fault) => {
+            drop(item);
+            Err(Stop::from(fault))
+        }
+    }
 }
 
-fn remove_bag(alloc: Global, bag: Text, state: &OrgState) -> Result<Prepared, NoMemory>
-    ensures { IfOk result (λ p. Finds (Ok p) (spec.bag_removed bag (state_in state.now)).answer) }
+/// The path of an item, and the key under which it is kept.
+fn item_place(alloc: Global, org: &Text, bag: &Text, id: &str) -> Result<(Text, Key), NoMemory>
+    ensures path { IfOk result (λ place. place.0 ≡ spec.bags_front org.now ++ items.item_name bag.now id.now) }
+    ensures key { IfOk result (λ place. place.1 ≡ record { kind = Kind.Item; name = items.item_name bag.now id.now }) }
 {
-    let moves = bag_removal(alloc, &bag, state)?;
-    let reply = shown_key(alloc, "name", Tree::Words(bag))?;
-    Ok(Prepared { reply, moves })
+    let front = bags_front(alloc, org)?;
+    let key = item_key(alloc, bag, id)?;
+    Ok((joined(alloc, front.as_str(), key.name.as_str())?, key))
+}
+
+/// 201 with the path of a new item.
+fn item_created(alloc: Global, path: Text, key: Key, item: Stored) -> Result<Prepared, NoMemory>
+    ensures { IfOk result (λ p. Finds (Ok p) (created_by path (Move.Put key item ∷ [])).answer) }
+{
+    let moves = one_move(alloc, Move::Put(key, item))?;
+    create_by(alloc, path, moves)
+}
+
+/// A bag goes with its items.
+fn remove_bag(alloc: Global, context: Context<'_>, bag: Text) -> Result<Prepared, Stop>
+    ensures { Finds result (spec.data_does (seen context.entry) (DataOperation.RemoveBag bag)).answer }
+{
+    let moves = bag_removal(alloc, &bag, context.state)?;
+    or_stop(with_moves(shown_key(alloc, "name", Tree::Words(bag)), moves))
 }
 
 /// Each of a bag's items goes, and then the bag with its access list.
@@ -309,12 +370,82 @@ fn bag_removal(alloc: Global, bag: &Text, state: &OrgState) -> Result<Moves, NoM
 {
     let ids = state.ids(alloc, bag.as_str())?;
     let mut moves = Moves::new(alloc);
-    for id in ids.as_slice() {
-        moves.push(Move::TakeOut(item_key(alloc, bag, id.as_str())?))?;
-    }
-    moves.push(Move::TakeOut(key_of(alloc, Kind::Bag, bag.as_str())?))?;
-    moves.push(Move::TakeList(key_of(alloc, Kind::Bag, bag.as_str())?))?;
+    add_bag_removal(alloc, bag, ids.as_slice(), &mut moves)?;
     Ok(moves)
+}
+
+fn add_bag_removal(
+    alloc: Global,
+    bag: &Text,
+    ids: &[Text],
+    moves: &mut Moves,
+) -> Result<(), NoMemory>
+    requires { moves.old ≡ [] }
+    ensures { OnOk result (moves.new ≡ map (λ id. Move.TakeOut (key Kind.Item (items.item_name bag.now id))) ids.now ++ Move.TakeOut (key Kind.Bag bag.now) ∷ Move.TakeList (key Kind.Bag bag.now) ∷ []) }
+{
+    for id in ids {
+        moves.push(item_goes(alloc, bag, id)?)?;
+    }
+    add_removal(alloc, Kind::Bag, bag, moves)
+}
+
+/// The move by which an item goes.
+fn item_goes(alloc: Global, bag: &Text, id: &Text) -> Result<Move, NoMemory>
+    ensures { IfOk result (λ one. one ≡ Move.TakeOut (key Kind.Item (items.item_name bag.now id.now))) }
+{
+    Ok(Move::TakeOut(item_key(alloc, bag, id.as_str())?))
+}
+
+/// An item is shown.
+fn show_item<L: Ledger>(
+    alloc: Global,
+    context: Context<'_>,
+    bag: Text,
+    id: Text,
+    steps: &mut Steps<L>,
+) -> Result<Prepared, Stop>
+    ensures done { Finds result (spec.data_does (seen context.entry) (DataOperation.ShowItem bag id)).answer }
+    ensures looked { Looked result (spec.data_does (seen context.entry) (DataOperation.ShowItem bag id)).looks steps.old steps.new }
+{
+    or_stop(show(alloc, context.state.item(bag.as_str(), id.as_str(), steps)))
+}
+
+/// An item takes the place of the one that was there.
+fn replace_item<L: Ledger>(
+    alloc: Global,
+    context: Context<'_>,
+    bag: Text,
+    id: Text,
+    item: Stored,
+    steps: &mut Steps<L>,
+) -> Result<Prepared, Stop>
+    ensures done { Finds result (spec.data_does (seen context.entry) (DataOperation.ReplaceItem bag id item)).answer }
+    ensures looked { Looked result (spec.data_does (seen context.entry) (DataOperation.ReplaceItem bag id item)).looks steps.old steps.new }
+{
+    let _replaced = context.state.item(bag.as_str(), id.as_str(), steps);
+    match item_key(alloc, &bag, id.as_str()) {
+        Ok(key) => or_stop(replace(alloc, key, item)),
+        Err(fault) => {
+            drop(item);
+            Err(Stop::from(fault))
+        }
+    }
+}
+
+/// An item goes.
+fn remove_item<L: Ledger>(
+    alloc: Global,
+    context: Context<'_>,
+    bag: Text,
+    id: Text,
+    steps: &mut Steps<L>,
+) -> Result<Prepared, Stop>
+    ensures done { Finds result (spec.data_does (seen context.entry) (DataOperation.RemoveItem bag id)).answer }
+    ensures looked { Looked result (spec.data_does (seen context.entry) (DataOperation.RemoveItem bag id)).looks steps.old steps.new }
+{
+    let moves = one_move(alloc, item_goes(alloc, &bag, &id)?)?;
+    let item = context.state.item(bag.as_str(), id.as_str(), steps);
+    or_stop(remove(alloc, item, moves))
 }
 
 /// The front of the paths of data bags.

@@ -6,6 +6,7 @@ mod laws;
 mod objects;
 mod operations;
 mod organisations;
+mod prepared;
 
 pub use data_bags::DataBags;
 pub use laws::{default_environment_is_read, groups_keep_conditions, groups_never_shelve};

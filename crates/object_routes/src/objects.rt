@@ -1,24 +1,30 @@
 //! The routes of nodes, roles, environments and clients: one rule for all four collections.
 
-ghost use Rattle.std.specs.Prelude.{◌≡◌, ◌++◌, Ok, IfOk, OnOk, option_map};
+ghost use Rattle.std.specs.Prelude.{◌≡◌, [], ◌∷◌, ◌++◌, Ok, IfOk, OnOk, option_map};
 ghost use Rattle.doc_tree.specs.Name.{is_name};
 ghost use Rattle.doc_tree.specs.Tree.{doc_of};
+ghost use Rattle.doc_tree.specs.Valid.{InOrder};
 ghost use Rattle.object_forms.specs.Kinds.{IsFormed};
+ghost use Rattle.object_store.specs.Objects.{key};
 ghost use Rattle.org_core.specs.Contexts.{seen};
-ghost use Rattle.org_core.specs.Outcomes.{Finds, does_by, reads, shows, tells};
+ghost use Rattle.org_core.specs.Creating.{created_by, with_list};
+ghost use Rattle.org_core.specs.Outcomes.{Finds, Looked, does_by, reads, shows, tells};
 ghost use Rattle.org_core.specs.Refusals.{Tells, refuses};
+ghost use Rattle.org_core.specs.Replies.{paths_behind};
 ghost use Rattle.org_core.specs.States.{state_in};
 ghost use Rattle.object_routes.specs.Objects as spec;
 
 use crate::operations::ObjectsOperation;
+use crate::prepared::{or_stop, with_moves};
+use access_lists::Container;
 use doc_tree::{Kind, NoMemory, Steps, Text, Tree, is_name};
 use object_finder::Finder;
 use object_store::Key;
 use org_core::{
     Body, Collection, Comer, Context, Group, Lent, Move, Moves, Need, Needs, ObjectsRoute,
-    OrgState, Perm, Prepared, Refusal, Request, Stop, Stored, absent, add_with_list, create_by,
-    joined, key_of, listed_need, named_by, object_in_body, object_named, one_move, org_uri, shown,
-    shown_paths,
+    OrgState, Perm, Prepared, Refusal, Request, Stop, Stored, absent, add_both, add_with_list,
+    create_by, joined, key_of, listed_need, named_by, object_in_body, object_named, one_move,
+    org_uri, shown, shown_paths,
 };
 use route_table::Verb;
 use std::alloc::Global;
@@ -111,23 +117,15 @@ impl Group for PlainObjects {
         steps: &mut Steps<L>,
     ) -> Result<Prepared, Stop> {
         let collection = self.collection;
-        let kind = collection.kind();
-        let state = context.state;
-        Ok(match operation {
-            ObjectsOperation::List => list(alloc, context, collection)?,
-            ObjectsOperation::Create(object) => create(alloc, context, collection, object)?,
-            ObjectsOperation::Show(name) => {
-                show(alloc, state.look_up(kind, name.as_str(), steps))?
-            }
+        match operation {
+            ObjectsOperation::List => list(alloc, context, collection),
+            ObjectsOperation::Create(object) => create(alloc, context, collection, object),
+            ObjectsOperation::Show(name) => show_one(alloc, context, collection, name, steps),
             ObjectsOperation::Replace(name, object) => {
-                let _replaced = state.look_up(kind, name.as_str(), steps);
-                replace(alloc, Key { kind, name }, object)?
+                replace_one(alloc, context, collection, name, object, steps)
             }
-            ObjectsOperation::Remove(name) => {
-                let moves = removal(alloc, collection, &name)?;
-                remove(alloc, state.look_up(kind, name.as_str(), steps), moves)?
-            }
-        })
+            ObjectsOperation::Remove(name) => remove_one(alloc, context, collection, name, steps),
+        }
     }
 }
 
@@ -251,11 +249,12 @@ fn is_fixed(collection: Collection, name: &str) -> bool
     }
 }
 
-fn list(alloc: Global, context: Context<'_>, collection: Collection) -> Result<Prepared, NoMemory>
-    ensures { IfOk result (λ p. Finds (Ok p) (spec.objects_does collection (seen context.entry) ObjectsOperation.List).answer) }
+/// The objects of a collection are listed.
+fn list(alloc: Global, context: Context<'_>, collection: Collection) -> Result<Prepared, Stop>
+    ensures { Finds result (spec.objects_does collection (seen context.entry) ObjectsOperation.List).answer }
 {
     let front = objects_front(alloc, context.org, collection)?;
-    listed(alloc, &front, collection.kind(), context.state)
+    or_stop(listed(alloc, &front, collection.kind(), context.state))
 }
 
 /// The names of a kind's objects, each with its path behind this front.
@@ -269,7 +268,15 @@ pub(crate) fn listed(
     ensures { IfOk result (λ p. Finds (Ok p) (tells (spec.listed front.now kind (state_in state.now))).answer) }
 {
     let names = state.names(alloc, kind)?;
-    let reply = shown_paths(alloc, front.as_str(), names.as_slice())?;
+    told_paths(alloc, front, names.as_slice())
+}
+
+/// 200 with each of these names and its path, which is the name behind this front.
+pub(crate) fn told_paths(alloc: Global, front: &Text, names: &[Text]) -> Result<Prepared, NoMemory>
+    requires { InOrder names.now }
+    ensures { IfOk result (λ p. Finds (Ok p) (tells (shows (paths_behind front.now names.now))).answer) }
+{
+    let reply = shown_paths(alloc, front.as_str(), names)?;
     Ok(Prepared {
         reply,
         moves: Moves::new(alloc),
@@ -287,41 +294,91 @@ fn objects_front(alloc: Global, org: &Text, collection: Collection) -> Result<Te
     Ok(Text::of(front))
 }
 
+/// An object is created in a collection.
 fn create(
     alloc: Global,
     context: Context<'_>,
     collection: Collection,
     object: Stored,
-) -> Result<Prepared, NoMemory>
-    ensures { IfOk result (λ p. Finds (Ok p) (spec.objects_does collection (seen context.entry) (ObjectsOperation.Create object)).answer) }
+) -> Result<Prepared, Stop>
+    ensures { Finds result (spec.objects_does collection (seen context.entry) (ObjectsOperation.Create object)).answer }
 {
-    let front = objects_front(alloc, context.org, collection)?;
-    let path = joined(alloc, front.as_str(), name_of(&object))?;
-    let moves = creation(alloc, context, collection, object)?;
+    match object_path(alloc, context.org, collection, name_of(&object)) {
+        Ok(path) => or_stop(created_at(alloc, context, collection, path, object)),
+        Err(fault) => {
+            drop(object);
+            Err(Stop::from(fault))
+        }
+    }
+}
+
+fn object_path(
+    alloc: Global,
+    org: &Text,
+    collection: Collection,
+    name: &str,
+) -> Result<Text, NoMemory>
+    ensures { IfOk result (λ path. path ≡ spec.objects_front org.now collection ++ name.now) }
+{
+    joined(alloc, objects_front(alloc, org, collection)?.as_str(), name)
+}
+
+/// 201 with the path of a new object.
+fn created_at(
+    alloc: Global,
+    context: Context<'_>,
+    collection: Collection,
+    path: Text,
+    object: Stored,
+) -> Result<Prepared, NoMemory>
+    ensures { IfOk result (λ p. Finds (Ok p) (created_by path (spec.creation collection (seen context.entry) (spec.name_of object) object)).answer) }
+{
+    let mut moves = Moves::new(alloc);
+    add_creation(alloc, context, collection, object, &mut moves)?;
     create_by(alloc, path, moves)
 }
 
-/// The moves by which an object of a collection is created.
-fn creation(
+/// Adds the moves by which an object of a collection is created.
+fn add_creation(
     alloc: Global,
     context: Context<'_>,
     collection: Collection,
     object: Stored,
-) -> Result<Moves, NoMemory>
-    ensures { IfOk result (λ moves. moves ≡ spec.creation collection (seen context.entry) (spec.name_of object) object) }
+    moves: &mut Moves,
+) -> Result<(), NoMemory>
+    requires { moves.old ≡ [] }
+    ensures { OnOk result (moves.new ≡ spec.creation collection (seen context.entry) (spec.name_of object) object) }
 {
-    let mut moves = Moves::new(alloc);
-    add_comers(alloc, collection, name_of(&object), &mut moves)?;
-    let key = key_of(alloc, collection.kind(), name_of(&object))?;
-    add_with_list(
-        alloc,
-        context,
-        collection.container(),
-        key,
-        object,
-        &mut moves,
-    )?;
-    Ok(moves)
+    match add_comers(alloc, collection, name_of(&object), moves) {
+        Ok(()) => {
+            let container = collection.container();
+            add_named(alloc, context, container, collection.kind(), object, moves)
+        }
+        Err(fault) => {
+            drop(object);
+            Err(fault)
+        }
+    }
+}
+
+/// Adds the moves by which an object comes into a container under its name, with an access list of its own.
+pub(crate) fn add_named(
+    alloc: Global,
+    context: Context<'_>,
+    container: Container,
+    kind: Kind,
+    object: Stored,
+    moves: &mut Moves,
+) -> Result<(), NoMemory>
+    ensures { OnOk result (moves.new ≡ moves.old ++ with_list container (seen context.entry) kind (spec.name_of object) object) }
+{
+    match key_of(alloc, kind, name_of(&object)) {
+        Ok(key) => add_with_list(alloc, context, container, key, object, moves),
+        Err(fault) => {
+            drop(object);
+            Err(fault)
+        }
+    }
 }
 
 /// Adds who comes with an object of the collection: a client joins the group `clients`.
@@ -339,16 +396,79 @@ fn add_comers(
     }
 }
 
+/// An object is shown.
+fn show_one<L: Ledger>(
+    alloc: Global,
+    context: Context<'_>,
+    collection: Collection,
+    name: Text,
+    steps: &mut Steps<L>,
+) -> Result<Prepared, Stop>
+    ensures done { Finds result (spec.objects_does collection (seen context.entry) (ObjectsOperation.Show name)).answer }
+    ensures looked { Looked result (spec.objects_does collection (seen context.entry) (ObjectsOperation.Show name)).looks steps.old steps.new }
+{
+    let object = context
+        .state
+        .look_up(collection.kind(), name.as_str(), steps);
+    or_stop(show(alloc, object))
+}
+
+/// An object takes the place of the one of its name.
+fn replace_one<L: Ledger>(
+    alloc: Global,
+    context: Context<'_>,
+    collection: Collection,
+    name: Text,
+    object: Stored,
+    steps: &mut Steps<L>,
+) -> Result<Prepared, Stop>
+    ensures done { Finds result (spec.objects_does collection (seen context.entry) (ObjectsOperation.Replace name object)).answer }
+    ensures looked { Looked result (spec.objects_does collection (seen context.entry) (ObjectsOperation.Replace name object)).looks steps.old steps.new }
+{
+    let kind = collection.kind();
+    let _replaced = context.state.look_up(kind, name.as_str(), steps);
+    or_stop(replace(alloc, Key { kind, name }, object))
+}
+
+/// An object goes.
+fn remove_one<L: Ledger>(
+    alloc: Global,
+    context: Context<'_>,
+    collection: Collection,
+    name: Text,
+    steps: &mut Steps<L>,
+) -> Result<Prepared, Stop>
+    ensures done { Finds result (spec.objects_does collection (seen context.entry) (ObjectsOperation.Remove name)).answer }
+    ensures looked { Looked result (spec.objects_does collection (seen context.entry) (ObjectsOperation.Remove name)).looks steps.old steps.new }
+{
+    let moves = removal(alloc, collection, &name)?;
+    let object = context
+        .state
+        .look_up(collection.kind(), name.as_str(), steps);
+    or_stop(remove(alloc, object, moves))
+}
+
 /// The moves by which an object of a collection goes, and its access list with it.
 fn removal(alloc: Global, collection: Collection, name: &Text) -> Result<Moves, NoMemory>
     ensures { IfOk result (λ moves. moves ≡ spec.removal collection name.now) }
 {
-    let kind = collection.kind();
     let mut moves = Moves::new(alloc);
-    moves.push(Move::TakeOut(key_of(alloc, kind, name.as_str())?))?;
-    moves.push(Move::TakeList(key_of(alloc, kind, name.as_str())?))?;
-    add_goers(alloc, collection, name, &mut moves)?;
-    Ok(moves)
+    add_removal(alloc, collection.kind(), name, &mut moves)?;
+    add_goers(alloc, collection, name, &mut moves).and(Ok(moves))
+}
+
+/// Adds the moves by which an object goes with its access list.
+pub(crate) fn add_removal(
+    alloc: Global,
+    kind: Kind,
+    name: &Text,
+    moves: &mut Moves,
+) -> Result<(), NoMemory>
+    ensures { OnOk result (moves.new ≡ moves.old ++ Move.TakeOut (key kind name.now) ∷ Move.TakeList (key kind name.now) ∷ []) }
+{
+    let object = key_of(alloc, kind, name.as_str())?;
+    let list = key_of(alloc, kind, name.as_str())?;
+    add_both(moves, Move::TakeOut(object), Move::TakeList(list))
 }
 
 /// Adds who goes with an object of the collection.
@@ -381,9 +501,9 @@ pub(crate) fn show(alloc: Global, object: Option<&Tree>) -> Result<Prepared, NoM
 pub(crate) fn replace(alloc: Global, key: Key, object: Stored) -> Result<Prepared, NoMemory>
     ensures { IfOk result (λ p. Finds (Ok p) (spec.replaced key.kind key.name object).answer) }
 {
-    let reply = shown(alloc, object.tree())?;
+    let reply = shown(alloc, object.tree());
     let moves = one_move(alloc, Move::Put(key, object))?;
-    Ok(Prepared { reply, moves })
+    with_moves(reply, moves)
 }
 
 /// An object that was found to be there goes by these moves.
@@ -394,8 +514,7 @@ pub(crate) fn remove(
 ) -> Result<Prepared, NoMemory>
     ensures { IfOk result (λ p. Finds (Ok p) (does_by (shows (spec.or_null (option_map (λ t. doc_of t.now) object.entry))) moves 1).answer) }
 {
-    let reply = shown(alloc, object.unwrap_or(&Tree::Null))?;
-    Ok(Prepared { reply, moves })
+    with_moves(shown(alloc, object.unwrap_or(&Tree::Null)), moves)
 }
 
 /// The name of an object.
