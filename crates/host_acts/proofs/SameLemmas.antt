@@ -1,14 +1,13 @@
 -- An act is determined by the host and the task.
-use Rattle.std.proofs.Common.{◌≡◌, ◌≢◌, ◌⊎◌, inl, inr, ◌<◌, ◌≤◌, Bool, true, false, List, ℕ, Some, None, bytes_eq, length, refl, sym, ap, ◌∙◌, arith}
+use Rattle.std.proofs.Common.{◌≡◌, ◌≢◌, ◌⊎◌, inl, inr, ◌<◌, ◌≤◌, Bool, true, false, List, ℕ, Some, bytes_eq, length, refl, sym, ap, ◌∙◌, arith}
 use Rattle.std.proofs.lemmas.Bool.{cases_lt, true≢false}
 use Rattle.std.specs.Cmp.Lexicographic.{bytes_decides}
 use Rattle.host_tree.proofs.EntryLemmas.{same_host}
-use Rattle.host_tree.specs.Entries.{Entries, at, has_below}
+use Rattle.host_tree.specs.Entries.{Entries, at}
 use Rattle.host_acts.specs.Acts as act
 use Rattle.host_acts.specs.Acts.{Act, ActsAreDetermined, HasCause, Updates, cause_above, cause_here, entry_after}
 use Rattle.host_acts.specs.Tasks.{Task}
 use Rattle.host_acts.specs.declared.cause.Cause.{Cause}
-use Rattle.host_acts.specs.declared.verdict.Verdict.{Verdict}
 use Rattle.host_acts.specs.declared.verdict.Verdict.TheVariants.{UpToDate, Updated, Failed}
 use Rattle.host_acts.proofs.PrefixLemmas.{above-compared, above-same}
 use Rattle.host_acts.proofs.StepLemmas.{none_some}

@@ -15,7 +15,7 @@ use Rattle.host_acts.specs.Agreeing.{AgreeingByTable, Agrees, AgreesByTable, Are
 use Rattle.host_acts.specs.Wants as wants
 use Rattle.host_acts.specs.Wants.{Fits, Holds, IsNoLink, IsWanted, LetsBe, Want, Wanted}
 use Rattle.host_acts.proofs.ChangeLemmas.{fits-given, not_above}
-use Rattle.host_acts.proofs.KeptLemmas.{lets_directory, none_true}
+use Rattle.host_acts.proofs.KeptLemmas.{lets_directory}
 use Rattle.host_acts.proofs.PrefixLemmas.{above-shorter, above-take, bytes_apart}
 use Rattle.host_acts.proofs.StepLemmas.{lets-directory, none_some}
 
