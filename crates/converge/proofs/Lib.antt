@@ -6,3 +6,4 @@ pub mod SettledLemmas
 pub mod RunLemmas
 pub mod FiringLemmas
 pub mod EndLemmas
+pub mod SameLemmas

@@ -4,6 +4,7 @@ use Rattle.std.specs.Prelude.{⊤}
 use Rattle.std.proofs.lemmas.Bool.{eqb-true, false≢true}
 use Rattle.std.proofs.lemmas.List.{append-nil}
 use Rattle.host_acts.proofs.KeptLemmas.{agreeing_suit, updates_keep}
+use Rattle.host_acts.proofs.TableLemmas.{agreeing_by_table}
 use Rattle.host_acts.specs.Acts.{IsDone}
 use Rattle.host_acts.specs.Agreeing.{Agrees, HoldsIn}
 use Rattle.host_acts.specs.Tasks.{Task, wanted_by}
@@ -17,7 +18,7 @@ use Rattle.notify_queue.specs.declared.pair.Pair.{Pair}
 use Rattle.resource_core.specs.Plans.{Planned}
 use Rattle.converge.specs.Pairs.{fires_of, now_of, own, own_fires, task_of}
 use Rattle.converge.specs.Runs.{Chain, halts, queues, passes, keeps, updates, fails, Rest, at_first, and_next, Run, failed_or, first_failed}
-use Rattle.converge.specs.Settled.{Agree, AreUpToDate, IsSettled, IsStated, own_action, notified, SettledStays, WellSettles, fired_pair, fired_pairs}
+use Rattle.converge.specs.Settled.{Agree, AreUpToDate, IsSettled, IsStated, own_action, notified, PlansByTableAgree, SettledStays, WellSettles, fired_pair, fired_pairs}
 use Rattle.converge.specs.declared.deeds.Deed.{Deed}
 use Rattle.converge.specs.declared.firing.Fire.{Fire}
 use Rattle.converge.specs.declared.firing.Fire.TheVariants.{Now, Later}
@@ -27,14 +28,14 @@ use Rattle.converge.specs.declared.firing.Fire.TheVariants.{Now, Later}
 same : (n : ℕ) → (n == n) ≡ true
 same n = grind arith
 
-or_left : (a b : Bool) → a ≡ true → (a || b) ≡ true
+pub or_left : (a b : Bool) → a ≡ true → (a || b) ≡ true
 or_left a b h = ap (λ x. x || b) h
 
-or_right : (a b : Bool) → b ≡ true → (a || b) ≡ true
+pub or_right : (a b : Bool) → b ≡ true → (a || b) ≡ true
 or_right true b h = refl
 or_right false b h = h
 
-or_parts : (a b : Bool) → (a || b) ≡ true → (a ≡ true) ⊎ (b ≡ true)
+pub or_parts : (a b : Bool) → (a || b) ≡ true → (a ≡ true) ⊎ (b ≡ true)
 or_parts true b h = inl refl
 or_parts false b h = inr h
 
@@ -45,7 +46,7 @@ and_both false b h = absurd (false≢true h)
 pub same_itself : (p : Pair) → same_pair p p ≡ true
 same_itself p = ap (λ b. b && (p.action == p.action)) (same p.resource) ∙ same p.action
 
-same_is : (p q : Pair) → same_pair p q ≡ true → p ≡ q
+pub same_is : (p q : Pair) → same_pair p q ≡ true → p ≡ q
 same_is p q h =
     let both = and_both (p.resource == q.resource) (p.action == q.action) h in
     ap (λ r. record { resource = r; action = p.action }) (eqb-true p.resource q.resource both.0) ∙ ap (λ a. record { resource = q.resource; action = a }) (eqb-true p.action q.action both.1)
@@ -256,3 +257,6 @@ well_settles plan host new acts agree run well = settles plan agree host new act
 
 pub settled_stays : SettledStays
 settled_stays plan host new acts settled run = stays plan host new acts settled run
+
+pub plans_by_table_agree : PlansByTableAgree
+plans_by_table_agree plan agree p q s t stated also is there = agreeing_by_table (wanted_by s) (wanted_by t) (agree p q s t stated also is there)

@@ -15,11 +15,13 @@ use Rattle.resource_core.specs.declared.links.Notification.{Notification}
 use Rattle.resource_core.specs.declared.resources.Resource.{Resource}
 use Rattle.resource_core.specs.declared.types.Action.{Action}
 use Rattle.converge.specs.Pairs.{fires_of, own_fires}
+use Rattle.converge.specs.Reports.{lines_of}
 use Rattle.converge.specs.Runs.{Chain, IsCutOff, IsInPart, Rest}
 use Rattle.converge.specs.Settled.{fired_pair}
 use Rattle.converge.specs.declared.deeds.Deed.{Deed}
 use Rattle.converge.specs.declared.firing.Fire.{Fire}
 use Rattle.converge.specs.declared.firing.Fire.TheVariants.{Now, Later}
+use Rattle.converge.specs.declared.log.Log.{Log}
 
 -- ---- what a work list has
 
@@ -69,6 +71,10 @@ left_after plan pair Updated todo = fires_of plan pair ++ todo
 left_after plan pair (Failed cause) todo = []
 
 -- ---- how far it has come
+
+-- each act so far has its line
+abbrev pub IsTold : Planned → Log → Type 0
+IsTold plan log = log.lines ≡ lines_of plan log.acts.items
 
 -- a work list was gone on with: the acts that were gained, and what was queued
 pub record Went (plan : Planned) (todo : List Fire) (acts_before : List Deed) (ever_before : List Pair) (left : List Fire) (acts : List Deed) (ever : List Pair) (host new : Entries) : Type 0 where

@@ -3,6 +3,7 @@ pub mod Runs
 pub mod Settled
 pub mod Needs
 pub mod Reports
+pub mod Determined
 pub mod Outcomes
 pub mod Ending
 pub mod Going

@@ -1,7 +1,7 @@
 -- Plans whose wants agree, and hosts on which nothing is left to do.
 use Rattle.std.specs.Prelude.{◌≡◌, true, List, [], ◌∷◌, Some, None, ⊤}
 use Rattle.host_acts.specs.Acts.{IsDone}
-use Rattle.host_acts.specs.Agreeing.{Agrees}
+use Rattle.host_acts.specs.Agreeing.{Agrees, AgreesByTable}
 use Rattle.host_acts.specs.Tasks.{Task, wanted_by}
 use Rattle.host_acts.specs.declared.verdict.Verdict.TheVariants.{UpToDate}
 use Rattle.host_tree.specs.Entries.{Entries}
@@ -32,6 +32,14 @@ pub data IsStated (plan : Planned) (pair : Pair) : Type 0 where
 -- any two wants that a plan states hold together in some host
 abbrev pub Agree : Planned → Type 0
 Agree plan = (p q : Pair) (s t : Task) → IsStated plan p → IsStated plan q → task_of plan p ≡ Some s → task_of plan q ≡ Some t → Agrees (wanted_by s) (wanted_by t)
+
+-- any two wants that a plan states agree by the table, which asks for no host
+abbrev pub AgreeByTable : Planned → Type 0
+AgreeByTable plan = (p q : Pair) (s t : Task) → IsStated plan p → IsStated plan q → task_of plan p ≡ Some s → task_of plan q ≡ Some t → AgreesByTable (wanted_by s) (wanted_by t)
+
+-- so any two of them hold together in some host
+abbrev pub PlansByTableAgree : Type 0
+PlansByTableAgree = (plan : Planned) → AgreeByTable plan → Agree plan
 
 -- what each own action wants holds
 abbrev pub IsSettled : Planned → Entries → Type 0

@@ -1,17 +1,19 @@
 //! How a work list is performed: one act after another, with what each fires at once, until nothing is left or one failed.
-ghost use Rattle.std.specs.Prelude.{◌≡◌, ◌<◌, ◌+◌, ◌∷◌, ◌++◌, [], IfOk, IfErr, OnOk, OnErr, List, reverse};
-ghost use Rattle.converge.specs.Going.{AreReadyFires, FiresReady, IsQueueOf, IsReady, Stopped, Went, left_after, weight, weights};
+ghost use Rattle.std.specs.Prelude.{◌≡◌, ◌≢◌, ◌<◌, ◌+◌, ◌∷◌, ◌++◌, [], Err, IfOk, IfErr, OnOk, OnErr, List, reverse};
+ghost use Rattle.converge.specs.Going.{AreReadyFires, FiresReady, IsQueueOf, IsReady, IsTold, Stopped, Went, left_after, weight, weights};
 ghost use Rattle.converge.specs.Pairs.{task_of};
 ghost use Rattle.converge.specs.Settled.{fired_pair};
 ghost use Rattle.converge.specs.declared.firing.Fire.TheVariants as fires;
 ghost use Rattle.host_acts.specs.Acts.{Performs, PerformsPart};
 ghost use Rattle.host_tree.specs.Faults.{HasHostCause};
 ghost use Rattle.host_tree.specs.Told.{Tells};
+ghost use Rattle.host_tree.specs.declared.fault.HostFault.TheVariants as fault;
 ghost use Rattle.resource_core.specs.Plans.{IsSound};
 ghost use Rattle.notify_queue.specs.declared.pair.Pair.{Pair as Paired};
 
 use crate::deeds::Deed;
 use crate::firing::{Fire, push_fires};
+use crate::log::Log;
 use doc_tree::NoMemory;
 use host_acts::{Verdict, perform};
 use host_tree::{Host, HostFault};
@@ -27,21 +29,23 @@ pub(crate) fn chain<H: Host>(
     work: Vec<Fire>,
     host: &mut H,
     queue: &mut Queue,
-    acts: &mut Vec<Deed>,
+    log: &mut Log,
 ) -> Result<(), HostFault>
     requires ready { AreReadyFires plan.now (H.offers host.old) (reverse work.items) }
     requires fires { FiresReady plan.now (H.offers host.old) }
     requires queue { IsQueueOf plan.now (H.offers host.old) queue.old }
-    ensures went { OnOk result (Tells (Went plan.now (reverse work.items) acts.old.items queue.old.ever [] acts.new.items queue.new.ever) (H.tells host.old) (H.tells host.new)) }
-    ensures stopped { IfErr result (λ why. Tells (Stopped plan.now (reverse work.items) acts.old.items acts.new.items why) (H.tells host.old) (H.tells host.new)) }
+    requires told { IsTold plan.now log.old }
+    ensures went { OnOk result (Tells (Went plan.now (reverse work.items) log.old.acts.items queue.old.ever [] log.new.acts.items queue.new.ever) (H.tells host.old) (H.tells host.new)) }
+    ensures stopped { IfErr result (λ why. Tells (Stopped plan.now (reverse work.items) log.old.acts.items log.new.acts.items why) (H.tells host.old) (H.tells host.new)) }
     ensures offers { H.offers host.new ≡ H.offers host.old }
     ensures cause { HasHostCause (H.faults host.old) (H.faults host.new) result }
     ensures queue { IsQueueOf plan.now (H.offers host.old) queue.new }
     ensures taken { queue.new.taken ≡ queue.old.taken }
+    ensures told { result ≢ Err fault.NoMemory → IsTold plan.now log.new }
 {
     let mut todo = work;
     while let Some(fire) = todo.pop() {
-        if let Err(fault) = turn(alloc, plan, fire, &mut todo, host, queue, acts) {
+        if let Err(fault) = turn(alloc, plan, fire, &mut todo, host, queue, log) {
             return Err(fault);
         }
     }
@@ -56,23 +60,25 @@ fn turn<H: Host>(
     todo: &mut Vec<Fire>,
     host: &mut H,
     queue: &mut Queue,
-    acts: &mut Vec<Deed>,
+    log: &mut Log,
 ) -> Result<(), HostFault>
     requires next { IsReady plan.now (H.offers host.old) (fired_pair fire) }
     requires ready { AreReadyFires plan.now (H.offers host.old) (reverse todo.old.items) }
     requires fires { FiresReady plan.now (H.offers host.old) }
     requires queue { IsQueueOf plan.now (H.offers host.old) queue.old }
-    ensures went { OnOk result (Tells (Went plan.now (fire ∷ reverse todo.old.items) acts.old.items queue.old.ever (reverse todo.new.items) acts.new.items queue.new.ever) (H.tells host.old) (H.tells host.new)) }
-    ensures stopped { IfErr result (λ why. Tells (Stopped plan.now (fire ∷ reverse todo.old.items) acts.old.items acts.new.items why) (H.tells host.old) (H.tells host.new)) }
+    requires told { IsTold plan.now log.old }
+    ensures went { OnOk result (Tells (Went plan.now (fire ∷ reverse todo.old.items) log.old.acts.items queue.old.ever (reverse todo.new.items) log.new.acts.items queue.new.ever) (H.tells host.old) (H.tells host.new)) }
+    ensures stopped { IfErr result (λ why. Tells (Stopped plan.now (fire ∷ reverse todo.old.items) log.old.acts.items log.new.acts.items why) (H.tells host.old) (H.tells host.new)) }
     ensures lighter { OnOk result (weights plan.now (reverse todo.new.items) < weight plan.now fire + weights plan.now (reverse todo.old.items)) }
     ensures ready { OnOk result (AreReadyFires plan.now (H.offers host.old) (reverse todo.new.items)) }
     ensures offers { H.offers host.new ≡ H.offers host.old }
     ensures cause { HasHostCause (H.faults host.old) (H.faults host.new) result }
     ensures queue { IsQueueOf plan.now (H.offers host.old) queue.new }
     ensures taken { queue.new.taken ≡ queue.old.taken }
+    ensures told { result ≢ Err fault.NoMemory → IsTold plan.now log.new }
 {
     match fire {
-        Fire::Now(pair) => perform_next(alloc, plan, pair, todo, host, acts),
+        Fire::Now(pair) => perform_next(alloc, plan, pair, todo, host, log),
         Fire::Later(pair) => {
             queue.queue(pair);
             Ok(())
@@ -87,24 +93,26 @@ fn perform_next<H: Host>(
     pair: Pair,
     todo: &mut Vec<Fire>,
     host: &mut H,
-    acts: &mut Vec<Deed>,
+    log: &mut Log,
 ) -> Result<(), HostFault>
     requires next { IsReady plan.now (H.offers host.old) pair }
     requires ready { AreReadyFires plan.now (H.offers host.old) (reverse todo.old.items) }
     requires fires { FiresReady plan.now (H.offers host.old) }
-    ensures went { (ever : List Paired) → OnOk result (Tells (Went plan.now (fires.Now pair ∷ reverse todo.old.items) acts.old.items ever (reverse todo.new.items) acts.new.items ever) (H.tells host.old) (H.tells host.new)) }
-    ensures stopped { IfErr result (λ why. Tells (Stopped plan.now (fires.Now pair ∷ reverse todo.old.items) acts.old.items acts.new.items why) (H.tells host.old) (H.tells host.new)) }
+    requires told { IsTold plan.now log.old }
+    ensures went { (ever : List Paired) → OnOk result (Tells (Went plan.now (fires.Now pair ∷ reverse todo.old.items) log.old.acts.items ever (reverse todo.new.items) log.new.acts.items ever) (H.tells host.old) (H.tells host.new)) }
+    ensures stopped { IfErr result (λ why. Tells (Stopped plan.now (fires.Now pair ∷ reverse todo.old.items) log.old.acts.items log.new.acts.items why) (H.tells host.old) (H.tells host.new)) }
     ensures lighter { OnOk result (weights plan.now (reverse todo.new.items) < weight plan.now (fires.Now pair) + weights plan.now (reverse todo.old.items)) }
     ensures ready { OnOk result (AreReadyFires plan.now (H.offers host.old) (reverse todo.new.items)) }
     ensures offers { H.offers host.new ≡ H.offers host.old }
     ensures cause { HasHostCause (H.faults host.old) (H.faults host.new) result }
+    ensures told { result ≢ Err fault.NoMemory → IsTold plan.now log.new }
 {
     let verdict = match perform_pair(alloc, plan, pair, host) {
         Err(fault) => return Err(fault),
         Ok(None) => return Ok(()),
         Ok(Some(verdict)) => verdict,
     };
-    match go_on(plan, Deed { pair, verdict }, todo, acts) {
+    match go_on(alloc, plan, Deed { pair, verdict }, todo, log) {
         Ok(()) => Ok(()),
         Err(NoMemory) => Err(HostFault::NoMemory),
     }
@@ -112,23 +120,19 @@ fn perform_next<H: Host>(
 
 /// Notes an act, and leaves what is left of the work list once its pair came to its verdict.
 fn go_on(
+    alloc: Global,
     plan: &RunPlan,
     act: Deed,
     todo: &mut Vec<Fire>,
-    acts: &mut Vec<Deed>,
+    log: &mut Log,
 ) -> Result<(), NoMemory>
-    ensures noted { OnOk result (acts.new.items ≡ acts.old.items ++ act ∷ []) }
+    requires { IsTold plan.now log.old }
+    ensures noted { OnOk result (log.new.acts.items ≡ log.old.acts.items ++ act ∷ []) }
     ensures left { OnOk result (reverse todo.new.items ≡ left_after plan.now act.pair act.verdict (reverse todo.old.items)) }
+    ensures told { OnOk result (IsTold plan.now log.new) }
 {
-    note(acts, act)?;
+    log.note(alloc, plan, act)?;
     leave(plan, act, todo)
-}
-
-fn note(acts: &mut Vec<Deed>, act: Deed) -> Result<(), NoMemory>
-    ensures { OnOk result (acts.new.items ≡ acts.old.items ++ act ∷ []) }
-{
-    acts.push(act)?;
-    Ok(())
 }
 
 fn leave(plan: &RunPlan, act: Deed, todo: &mut Vec<Fire>) -> Result<(), NoMemory>

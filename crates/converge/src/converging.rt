@@ -1,7 +1,7 @@
 //! The one call: a plan performed on a host.
-ghost use Rattle.std.specs.Prelude.{◌≡◌, ◌≢◌, ◌≤◌, None, Some, true};
+ghost use Rattle.std.specs.Prelude.{◌≡◌, ◌≢◌, ◌≤◌, None, Some, false, true};
 ghost use Rattle.converge.specs.Counting.{failed_of as pair_and_cause};
-ghost use Rattle.converge.specs.Ending.{TellsCut, TellsEnd};
+ghost use Rattle.converge.specs.Ending.{TellsEnd};
 ghost use Rattle.converge.specs.Needs.{lacking as lacking_of};
 ghost use Rattle.converge.specs.Outcomes.{ComesTo, IsComplete, IsIdle, Settles, is_host_fault, lack_in};
 ghost use Rattle.converge.specs.Runs.{first_failed as first_of};
@@ -10,8 +10,9 @@ ghost use Rattle.host_tree.specs.Told.{Tells};
 ghost use Rattle.resource_core.specs.Plans.{IsSound};
 ghost use Rattle.outside_core.specs.Failed.{Rose};
 
-use crate::deeds::{Deed, Failure, first_failed};
-use crate::lines::{report, whole_report};
+use crate::deeds::{Failure, first_failed};
+use crate::lines::whole_report;
+use crate::log::Log;
 use crate::needs::lacking;
 use crate::outcome::Outcome;
 use crate::runs::run;
@@ -28,13 +29,15 @@ use std::alloc::Global;
 /// and performed after all own actions. After a failed act no further own action is begun, and nothing more is performed
 /// of what it stands in; what was queued is performed all the same. It isn't recursive.
 ///
-/// What is said of the host is said of one that tells what it holds.
+/// The host's count of faults rises in no call but one that ends as a host fault, so want of memory is never told where
+/// the host failed. What else is said of the host is said of one that tells what it holds.
 pub fn converge<H: Host>(alloc: Global, plan: &RunPlan, host: &mut H) -> Outcome
     ensures run { Tells (ComesTo plan.now result) (H.tells host.old) (H.tells host.new) }
     ensures lacks { lack_in result ≡ lacking_of plan.now (H.offers host.old) }
     ensures untouched { lack_in result ≢ None → host.new ≡ host.old }
     ensures fault { is_host_fault result ≡ true → Rose (H.faults host.old) (H.faults host.new) }
     ensures later { H.faults host.old ≤ H.faults host.new }
+    ensures unfailed { is_host_fault result ≡ false → H.faults host.new ≡ H.faults host.old }
     ensures offers { H.offers host.new ≡ H.offers host.old }
     ensures settles { Agree plan.now → Tells (Settles plan.now result) (H.tells host.old) (H.tells host.new) }
     ensures stays { lacking_of plan.now (H.offers host.old) ≡ None → Tells (IsIdle plan.now result) (H.tells host.old) (H.tells host.new) }
@@ -54,57 +57,48 @@ fn perform_all<H: Host>(alloc: Global, plan: &RunPlan, host: &mut H) -> Outcome
     ensures lacks { lack_in result ≡ None }
     ensures fault { is_host_fault result ≡ true → Rose (H.faults host.old) (H.faults host.new) }
     ensures later { H.faults host.old ≤ H.faults host.new }
+    ensures unfailed { is_host_fault result ≡ false → H.faults host.new ≡ H.faults host.old }
     ensures offers { H.offers host.new ≡ H.offers host.old }
 {
-    let mut acts = Vec::new(alloc);
-    match run(alloc, plan, host, &mut acts) {
-        Ok(()) => end_of(alloc, plan, &acts),
-        Err(HostFault::Failed) => cut_of(alloc, plan, &acts),
-        Err(HostFault::NoMemory) => Outcome::NoMemory,
+    let mut log = Log::new(alloc);
+    match run(alloc, plan, host, &mut log) {
+        Ok(()) => end_of(alloc, log),
+        Err(HostFault::Failed) => Outcome::HostFault(log.into_report()),
+        Err(HostFault::NoMemory) => {
+            drop(log);
+            Outcome::NoMemory
+        }
     }
 }
 
 /// What a run that came to its end with these acts comes to.
-fn end_of(alloc: Global, plan: &RunPlan, acts: &[Deed]) -> Outcome
-    ensures { TellsEnd plan.now acts.now result }
+fn end_of(alloc: Global, log: Log) -> Outcome
+    ensures { TellsEnd log.acts.items log.lines result }
 {
-    match first_failed(acts) {
-        None => done_of(alloc, plan, acts),
-        Some(failure) => failed_of(alloc, plan, acts, failure),
+    match first_failed(&log.acts) {
+        None => done_of(alloc, log),
+        Some(failure) => failed_of(log, failure),
     }
 }
 
-fn done_of(alloc: Global, plan: &RunPlan, acts: &[Deed]) -> Outcome
-    requires { first_of acts.now ≡ None }
-    ensures { TellsEnd plan.now acts.now result }
+fn done_of(alloc: Global, log: Log) -> Outcome
+    requires { first_of log.acts.items ≡ None }
+    ensures { TellsEnd log.acts.items log.lines result }
 {
-    match whole_report(alloc, plan, acts) {
+    match whole_report(alloc, log) {
         Ok(report) => Outcome::Done(report),
         Err(NoMemory) => Outcome::NoMemory,
     }
 }
 
-fn failed_of(alloc: Global, plan: &RunPlan, acts: &[Deed], failure: Failure) -> Outcome
-    requires { first_of acts.now ≡ Some (pair_and_cause failure) }
-    ensures { TellsEnd plan.now acts.now result }
+fn failed_of(log: Log, failure: Failure) -> Outcome
+    requires { first_of log.acts.items ≡ Some (pair_and_cause failure) }
+    ensures { TellsEnd log.acts.items log.lines result }
 {
-    match report(alloc, plan, acts) {
-        Ok(report) => Outcome::Failed {
-            resource: failure.pair.resource,
-            action: failure.pair.action,
-            cause: failure.cause,
-            report,
-        },
-        Err(NoMemory) => Outcome::NoMemory,
-    }
-}
-
-/// What a run that the host cut off after these acts comes to.
-fn cut_of(alloc: Global, plan: &RunPlan, acts: &[Deed]) -> Outcome
-    ensures { TellsCut plan.now acts.now result }
-{
-    match report(alloc, plan, acts) {
-        Ok(report) => Outcome::HostFault(report),
-        Err(NoMemory) => Outcome::NoMemory,
+    Outcome::Failed {
+        resource: failure.pair.resource,
+        action: failure.pair.action,
+        cause: failure.cause,
+        report: log.into_report(),
     }
 }

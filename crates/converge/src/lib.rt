@@ -7,12 +7,15 @@ mod deeds;
 mod firing;
 mod laws;
 mod lines;
+mod log;
 mod needs;
 mod outcome;
 mod report;
 mod runs;
 
 pub use converging::converge;
-pub use laws::{settled_hosts_stay, well_runs_settle};
+pub use laws::{
+    plans_that_agree_by_table_agree, runs_are_determined, settled_hosts_stay, well_runs_settle,
+};
 pub use outcome::{Cap, Outcome};
 pub use report::Report;

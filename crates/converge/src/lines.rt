@@ -1,43 +1,27 @@
 //! The lines of a report.
-ghost use Rattle.std.specs.Prelude.{◌≡◌, ◌++◌, IfOk, OnOk, codes, decimal, option_copied, string_bytes};
+ghost use Rattle.std.specs.Prelude.{◌≡◌, ◌++◌, ◌∷◌, [], IfOk, OnOk, option_copied, string_bytes};
 ghost use Rattle.converge.specs.Reports as spec;
 
 use crate::deeds::{Deed, updates_in};
+use crate::log::Log;
 use crate::report::Report;
-use doc_tree::{NoMemory, Text, Texts};
+use doc_tree::{NoMemory, Text};
 use host_acts::Verdict;
 use resource_core::{Action, Resource, RunPlan};
 use std::alloc::Global;
 
-/// The report of a run that is done.
-pub(crate) fn whole_report(alloc: Global, plan: &RunPlan, acts: &[Deed]) -> Result<Report, NoMemory>
-    ensures { IfOk result (λ report. report.lines ≡ spec.whole_report plan.now acts.now) }
+/// The report of a run that is done with these acts.
+pub(crate) fn whole_report(alloc: Global, log: Log) -> Result<Report, NoMemory>
+    ensures { IfOk result (λ report. report.lines ≡ log.lines ++ spec.last_line log.acts.items ∷ []) }
 {
-    let mut lines = lines_of(alloc, plan, acts)?;
-    lines.push(last_line(alloc, acts)?)?;
-    Ok(Report { lines })
+    let line = last_line(alloc, &log.acts)?;
+    let mut report = log.into_report();
+    report.lines.push(line)?;
+    Ok(report)
 }
 
-/// The report of a run that isn't.
-pub(crate) fn report(alloc: Global, plan: &RunPlan, acts: &[Deed]) -> Result<Report, NoMemory>
-    ensures { IfOk result (λ report. report.lines ≡ spec.lines_of plan.now acts.now) }
-{
-    Ok(Report {
-        lines: lines_of(alloc, plan, acts)?,
-    })
-}
-
-fn lines_of(alloc: Global, plan: &RunPlan, acts: &[Deed]) -> Result<Texts, NoMemory>
-    ensures { IfOk result (λ lines. lines ≡ spec.lines_of plan.now acts.now) }
-{
-    let mut lines = Texts::new(alloc);
-    for act in acts {
-        lines.push(line_of(alloc, plan, *act)?)?;
-    }
-    Ok(lines)
-}
-
-fn line_of(alloc: Global, plan: &RunPlan, act: Deed) -> Result<Text, NoMemory>
+/// The line of an act.
+pub(crate) fn line_of(alloc: Global, plan: &RunPlan, act: Deed) -> Result<Text, NoMemory>
     ensures { IfOk result (λ line. line ≡ spec.line_of plan.now act) }
 {
     match plan.resources().get(act.pair.resource) {

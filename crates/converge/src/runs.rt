@@ -1,15 +1,16 @@
 //! A run: the own actions in order, and then what was queued.
-ghost use Rattle.std.specs.Prelude.{◌≡◌, ◌∷◌, IfErr, IfOk, OnOk, []};
-ghost use Rattle.converge.specs.Going.{AreReadyFires, FiresReady, RunStopped};
+ghost use Rattle.std.specs.Prelude.{◌≡◌, ◌≢◌, ◌∷◌, Err, IfErr, IfOk, OnOk, []};
+ghost use Rattle.converge.specs.Going.{AreReadyFires, FiresReady, IsTold, RunStopped};
 ghost use Rattle.converge.specs.Pairs.{own_fires};
 ghost use Rattle.converge.specs.Runs.{IsRunOf};
 ghost use Rattle.converge.specs.declared.firing.Fire.TheVariants as fires;
 ghost use Rattle.host_tree.specs.Faults.{HasHostCause};
 ghost use Rattle.host_tree.specs.Told.{Tells};
+ghost use Rattle.host_tree.specs.declared.fault.HostFault.TheVariants as fault;
 
 use crate::chains::chain;
-use crate::deeds::Deed;
 use crate::firing::{Fire, own_fires};
+use crate::log::Log;
 use doc_tree::NoMemory;
 use host_tree::{Host, HostFault};
 use notify_queue::{Pair, Queue};
@@ -22,15 +23,17 @@ pub(crate) fn run<H: Host>(
     alloc: Global,
     plan: &RunPlan,
     host: &mut H,
-    acts: &mut Vec<Deed>,
+    log: &mut Log,
 ) -> Result<(), HostFault>
-    requires empty { acts.old.items ≡ [] }
+    requires empty { log.old.acts.items ≡ [] }
+    requires told { IsTold plan.now log.old }
     requires owns { AreReadyFires plan.now (H.offers host.old) (own_fires plan.now) }
     requires fires { FiresReady plan.now (H.offers host.old) }
-    ensures run { OnOk result (Tells (IsRunOf plan.now acts.new.items) (H.tells host.old) (H.tells host.new)) }
-    ensures stopped { IfErr result (λ why. Tells (RunStopped plan.now acts.new.items why) (H.tells host.old) (H.tells host.new)) }
+    ensures run { OnOk result (Tells (IsRunOf plan.now log.new.acts.items) (H.tells host.old) (H.tells host.new)) }
+    ensures stopped { IfErr result (λ why. Tells (RunStopped plan.now log.new.acts.items why) (H.tells host.old) (H.tells host.new)) }
     ensures offers { H.offers host.new ≡ H.offers host.old }
     ensures cause { HasHostCause (H.faults host.old) (H.faults host.new) result }
+    ensures told { result ≢ Err fault.NoMemory → IsTold plan.now log.new }
 {
     let Ok(mut queue) = Queue::make(alloc, plan.resources().len()) else {
         return Err(HostFault::NoMemory);
@@ -38,14 +41,14 @@ pub(crate) fn run<H: Host>(
     let Ok(work) = own_fires(alloc, plan) else {
         return Err(HostFault::NoMemory);
     };
-    if let Err(fault) = chain(alloc, plan, work, host, &mut queue, acts) {
+    if let Err(fault) = chain(alloc, plan, work, host, &mut queue, log) {
         return Err(fault);
     }
     while let Some(pair) = queue.next() {
         let Ok(work) = one(alloc, pair) else {
             return Err(HostFault::NoMemory);
         };
-        if let Err(fault) = chain(alloc, plan, work, host, &mut queue, acts) {
+        if let Err(fault) = chain(alloc, plan, work, host, &mut queue, log) {
             return Err(fault);
         }
     }

@@ -1,5 +1,5 @@
 -- Missing prefixes, as they are made one by one, and an act behind them.
-use Rattle.std.proofs.Common.{◌≡◌, ◌≢◌, ◌⊎◌, inl, inr, ℕ, ◌+◌, ◌<◌, ◌≤◌, Bool, true, false, cond, ◌||◌, ◌==◌, List, Option, Some, None, bytes_eq, length, take, get_or, refl, sym, ap, subst, ◌∙◌, arith}
+use Rattle.std.proofs.Common.{◌≡◌, ◌≢◌, ◌⊎◌, inl, inr, ℕ, ◌+◌, ◌<◌, ◌≤◌, Bool, true, false, cond, ◌&&◌, ◌||◌, ◌==◌, List, Option, Some, None, bytes_eq, length, take, get_or, refl, sym, ap, subst, ◌∙◌, arith}
 use Rattle.std.proofs.lemmas.Bool.{true≢false, cases_lt, eqb-true, eq-eqb}
 use Rattle.std.proofs.lemmas.List.{length-take-le}
 use Rattle.std.specs.Cmp.Lexicographic.{bytes_decides}
@@ -11,7 +11,7 @@ use Rattle.host_tree.specs.Paths.{is_above}
 use Rattle.host_tree.specs.declared.entry.Entry.{Entry}
 use Rattle.host_tree.specs.declared.entry.Entry.TheVariants.{File, Directory, Link}
 use Rattle.host_acts.specs.Acts as act
-use Rattle.host_acts.specs.Acts.{ActsTo, Elsewhere, HasCause, IsDone, IsPart, cause_above, cause_here, entry_after, is_removal, makes_prefixes, removes_below}
+use Rattle.host_acts.specs.Acts.{ActsTo, Elsewhere, HasCause, IsDone, IsPart, cause_above, cause_here, entry_after, is_removal, makes_prefixes, or_directory, other_after, removes_below}
 use Rattle.host_acts.specs.Changes.{BuiltUpTo, MakesPrefix, StaysOrIsMade}
 use Rattle.host_acts.specs.Scanning.{BreaksAt, obstacle_in}
 use Rattle.host_acts.specs.Steps.{cause_over}
@@ -194,6 +194,28 @@ module _ (task : Task) (host mid : Entries) (found : Break) (breaks : BreaksAt h
   pub built_then_part : (new : Entries) → IsPart task mid new → IsPart task host new
   built_then_part new part q apart = one_change new q (built.others q) (part q apart)
 
+  -- what is left of another path at which this stood
+  abbrev left : List ℕ → Option Entry → Option Entry
+  left q entry = cond (is_above q task.path) (or_directory entry) entry
+
+  -- what an act leaves of another path is the same before what was made and behind it
+  other_same : (q : List ℕ) → StaysOrIsMade (λ p. (is_above p task.path ≡ true) × (length p < length task.path)) host mid q → other_after task mid q ≡ other_after task host q
+  other_same q change = behind mid ∙ same change ∙ sym (behind host)
+    where
+      keeps_below : (b : Bool) → removes_below task.work ≡ b → removes_below task.work ≡ false
+      keeps_below true is = absurd (makes_keeps_below task.work makes is)
+      keeps_below false is = is
+
+      behind : (h : Entries) → other_after task h q ≡ left q (at h q)
+      behind h =
+          ap (λ (r : Bool). cond (r && is_above task.path q) None (cond (makes_prefixes task.work && is_above q task.path) (or_directory (at h q)) (at h q))) (keeps_below (removes_below task.work) refl)
+          ∙ ap (λ (m : Bool). cond (m && is_above q task.path) (or_directory (at h q)) (at h q)) makes
+
+      same : StaysOrIsMade (λ p. (is_above p task.path ≡ true) × (length p < length task.path)) host mid q → left q (at mid q) ≡ left q (at host q)
+      same (inl kept) = ap (left q) kept
+      same (inr (short, was, is)) =
+          ap (left q) is ∙ ap (λ (b : Bool). cond b (Some (Directory 493)) (Some (Directory 493))) short.0 ∙ sym (ap (λ (b : Bool). cond b (Some (Directory 493)) None) short.0) ∙ sym (ap (left q) was)
+
   not_done : IsDone host task → ⊥
   not_done done = makes_some task.work makes (subst (IsWanted (want_of task.work)) (none_here task host found breaks) done.here)
 
@@ -225,7 +247,8 @@ module _ (task : Task) (host mid : Entries) (found : Break) (breaks : BreaksAt h
     record {
       done = done.2.done;
       here = done.2.here ∙ ap (entry_after task.work) mid_same;
-      elsewhere = built_then_part new done.2.elsewhere;
+      elsewhere = λ q apart. done.2.elsewhere q apart ∙ other_same q (built.others q);
+      whole = done.2.whole;
     },
   )
 

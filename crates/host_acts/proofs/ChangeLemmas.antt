@@ -1,20 +1,19 @@
 -- What the calls of one act make of a host.
-use Rattle.std.proofs.Common.{◌≡◌, ◌≢◌, ℕ, Bool, true, false, cond, ◌||◌, List, [], Option, Some, None, bytes_eq, refl, sym, ap, subst, ◌∙◌}
-use Rattle.std.proofs.lemmas.Bool.{true≢false}
+use Rattle.std.proofs.Common.{◌≡◌, ◌≢◌, ℕ, Bool, true, false, cond, ◌==◌, ◌&&◌, ◌||◌, IsTrue, List, [], Option, Some, None, bytes_eq, refl, sym, ap, subst, ◌∙◌}
+use Rattle.std.proofs.lemmas.Bool.{eqb-true, true≢false}
 use Rattle.std.specs.Cmp.Lexicographic.{bytes_decides}
 use Rattle.host_tree.proofs.EntryLemmas.{at-with_directory, at-with_file, at-with_link, at-with_mode, at-without}
 use Rattle.host_tree.proofs.PathLemmas.{above-itself}
 use Rattle.host_tree.specs.Acts.{IsReached, entry_of, with_directory, with_file, with_link, with_mode, without, written}
 use Rattle.host_tree.specs.Entries.{Entries, at, IsDirectory, IsHost}
-use Rattle.host_tree.specs.Paths.{is_above}
+use Rattle.host_tree.specs.Paths.{is_above, is_normal}
 use Rattle.host_tree.specs.declared.entry.Entry.{Entry}
 use Rattle.host_tree.specs.declared.entry.Entry.TheVariants.{File, Directory, Link}
 use Rattle.host_tree.specs.declared.seen.Seen.{Seen}
 use Rattle.host_tree.specs.declared.seen.Seen.TheVariants.{Absent, LinkThere}
-use Rattle.host_acts.specs.Acts as act
 use Rattle.host_acts.specs.Acts.{Updates, entry_after, given, makes_prefixes, or_directory, other_after, removes_below}
-use Rattle.host_acts.specs.Changes.{Becomes, IsNoDirectory, IsUnlinked, KeepsOthers, SetsDue, Stands, content_put, is_kept, text_of, unlinked}
-use Rattle.host_acts.specs.Steps.{fits_text}
+use Rattle.host_acts.specs.Changes.{Becomes, IsDirectoryOrNone, IsNoDirectory, IsUnlinked, KeepsOthers, SetsDue, Stands, content_put, directory_with, file_put, is_kept, text_of, unlinked, with_due}
+use Rattle.host_acts.specs.Steps.{fits_mode, fits_text}
 use Rattle.host_acts.specs.Tasks.{Task, Work, make_file, make_missing_file, remove_file, make_directory, remove_directory, make_link, remove_link, want_of}
 use Rattle.host_acts.specs.Wants.{Fits, IsWanted}
 use Rattle.host_acts.proofs.PrefixLemmas.{bytes_apart}
@@ -108,9 +107,45 @@ new-content content (Some (Link t)) lacks is = refl
 
 -- ---- what the calls make is what the work makes
 
+-- a mode that is due is the one that is given
+file-due : (content : List ℕ) (mode : Option ℕ) (bits : ℕ) → with_due (cond (fits_mode mode bits) None mode) (File content bits) ≡ File content (given mode bits)
+file-due content None bits = refl
+file-due content (Some mode) bits = by (mode == bits) refl
+  where
+    by : (b : Bool) → (mode == bits) ≡ b → with_due (cond (mode == bits) None (Some mode)) (File content bits) ≡ File content mode
+    by true is = ap (λ (t : Bool). with_due (cond t None (Some mode)) (File content bits)) is ∙ ap (File content) (sym (eqb-true mode bits is))
+    by false is = ap (λ (t : Bool). with_due (cond t None (Some mode)) (File content bits)) is
+
+directory-due : (mode : Option ℕ) (bits : ℕ) → with_due (cond (fits_mode mode bits) None mode) (Directory bits) ≡ Directory (given mode bits)
+directory-due None bits = refl
+directory-due (Some mode) bits = by (mode == bits) refl
+  where
+    by : (b : Bool) → (mode == bits) ≡ b → with_due (cond (mode == bits) None (Some mode)) (Directory bits) ≡ Directory mode
+    by true is = ap (λ (t : Bool). with_due (cond t None (Some mode)) (Directory bits)) is ∙ ap Directory (sym (eqb-true mode bits is))
+    by false is = ap (λ (t : Bool). with_due (cond t None (Some mode)) (Directory bits)) is
+
+pub file-puts : (content : Option (List ℕ)) (mode : Option ℕ) (replaces : Bool) (entry : Option Entry) → IsNoDirectory entry → file_put content mode entry ≡ entry_after (make_file content mode replaces) entry
+file-puts content None replaces None lacks = refl
+file-puts content (Some m) replaces None lacks = refl
+file-puts content mode replaces (Some (File d n)) lacks = ap Some (file-due (given content d) mode n)
+file-puts content mode replaces (Some (Directory n)) lacks = absurd lacks
+file-puts content None replaces (Some (Link t)) lacks = refl
+file-puts content (Some m) replaces (Some (Link t)) lacks = refl
+
+pub missing-puts : (content : Option (List ℕ)) (mode : Option ℕ) (entry : Option Entry) → entry ≡ None → file_put content mode entry ≡ entry_after (make_missing_file content mode) entry
+missing-puts content mode entry is =
+    ap (file_put content mode) is ∙ file-puts content mode false None tt ∙ ap (entry_after (make_missing_file content mode)) (sym is)
+
+pub directory-puts : (mode : Option ℕ) (recursive : Bool) (entry : Option Entry) → IsDirectoryOrNone entry → directory_with mode entry ≡ entry_after (make_directory mode recursive) entry
+directory-puts None recursive None fits = refl
+directory-puts (Some m) recursive None fits = refl
+directory-puts mode recursive (Some (File d n)) fits = absurd fits
+directory-puts mode recursive (Some (Directory n)) fits = ap Some (directory-due mode n)
+directory-puts mode recursive (Some (Link t)) fits = absurd fits
+
 -- ---- what the work makes is what it wants
 
-fits-given : {X : Type 0} (one : Option X) (before : X) → Fits one (given one before)
+pub fits-given : {X : Type 0} (one : Option X) (before : X) → Fits one (given one before)
 fits-given None before = tt
 fits-given (Some x) before = refl
 
@@ -132,15 +167,53 @@ wanted-after (remove_directory r) entry = tt
 wanted-after (make_link t) entry = refl
 wanted-after remove_link entry = tt
 
+-- a path that is changed alone keeps a host one, where a directory stays a directory
+host-becomes : (path : List ℕ) (entry : Option Entry) (host new : Entries) → IsHost host → IsTrue (is_normal path) → IsReached host path → (IsDirectory (at host path) → IsDirectory entry) → Becomes path entry host new
+    → IsHost new
+host-becomes path entry host new whole normal reached keeps becomes q found has = by (bytes_eq q path) refl
+  where
+    directory : (above : List ℕ) → (b : Bool) → bytes_eq above path ≡ b → IsDirectory (at host above) → IsDirectory (at new above)
+    directory above true same was =
+        let is = (bytes_decides above path).0 same in
+        subst (λ (p : List ℕ). IsDirectory (at new p)) (sym is) (subst IsDirectory (sym becomes.here) (keeps (subst (λ (p : List ℕ). IsDirectory (at host p)) is was)))
+    directory above false apart was = subst IsDirectory (sym (becomes.others above (λ is. true≢false (sym ((bytes_decides above path).1 is) ∙ apart)))) was
+
+    by : (b : Bool) → bytes_eq q path ≡ b → IsTrue (is_normal q) × ((above : List ℕ) → is_above above q ≡ true → IsDirectory (at new above))
+    by true same =
+        let is = (bytes_decides q path).0 same in (
+          subst (λ (p : List ℕ). IsTrue (is_normal p)) (sym is) normal,
+          λ above over. directory above (bytes_eq above path) refl (reached above (subst (λ (p : List ℕ). is_above above p ≡ true) is over)),
+        )
+    by false apart =
+        let parts = whole q found (sym (becomes.others q (λ is. true≢false (sym ((bytes_decides q path).1 is) ∙ apart))) ∙ has) in
+        (parts.0, λ above over. directory above (bytes_eq above path) refl (parts.1 above over))
+
+-- at a path that is reached, work that removes nothing below it leaves the other paths
+other-kept : (task : Task) (host : Entries) (q : List ℕ) → removes_below task.work ≡ false → IsReached host task.path → other_after task host q ≡ at host q
+other-kept task host q removes reached =
+    ap (λ (r : Bool). cond (r && is_above task.path q) None (cond (makes_prefixes task.work && is_above q task.path) (or_directory (at host q)) (at host q))) removes
+    ∙ made (makes_prefixes task.work) (is_above q task.path) refl
+  where
+    there : (entry : Option Entry) → IsDirectory entry → or_directory entry ≡ entry
+    there None is = absurd is
+    there (Some entry) is = refl
+
+    made : (m b : Bool) → is_above q task.path ≡ b → cond (m && b) (or_directory (at host q)) (at host q) ≡ at host q
+    made false b is = refl
+    made true false is = refl
+    made true true is = there (at host q) (reached q is)
+
 -- a host in which the work was done at its path, and no other path changed
-pub updates-at : (task : Task) (host new : Entries) (entry : Option Entry) → IsReached host task.path → entry ≡ entry_after task.work (at host task.path) → Becomes task.path entry host new → Updates task host new
-updates-at task host new entry reached is becomes = record {
+pub updates-at : (task : Task) (host new : Entries) (entry : Option Entry) → IsHost host → IsTrue (is_normal task.path) → IsReached host task.path → removes_below task.work ≡ false → (IsDirectory (at host task.path) → IsDirectory entry)
+    → entry ≡ entry_after task.work (at host task.path) → Becomes task.path entry host new → Updates task host new
+updates-at task host new entry whole normal reached removes keeps is becomes = record {
   done = record {
     here = subst (IsWanted (want_of task.work)) (sym (becomes.here ∙ is)) (wanted-after task.work (at host task.path));
     above = λ prefix above. lets-directory (want_of task.work) (at new prefix) (reached-kept task.path host new becomes.others reached prefix above);
   };
   here = becomes.here ∙ is;
-  elsewhere = λ path apart. act.stays (becomes.others path apart);
+  elsewhere = λ path apart. becomes.others path apart ∙ sym (other-kept task host path removes reached);
+  whole = host-becomes task.path entry host new whole normal reached keeps becomes;
 }
 
 -- ---- the calls of one act, by what was seen

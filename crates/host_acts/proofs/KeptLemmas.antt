@@ -1,5 +1,5 @@
 -- An act that updates keeps each want that suits its own; and wants that agree suit each other.
-use Rattle.std.proofs.Common.{◌≡◌, ◌≢◌, inl, inr, ℕ, Bool, true, false, List, Option, Some, None, bytes_eq, refl, sym, ap, subst, ◌∙◌}
+use Rattle.std.proofs.Common.{◌≡◌, inl, inr, ℕ, Bool, true, false, cond, ◌&&◌, List, Option, Some, None, bytes_eq, refl, sym, ap, subst, ◌∙◌}
 use Rattle.std.proofs.lemmas.Bool.{true≢false}
 use Rattle.std.specs.Cmp.Lexicographic.{bytes_decides}
 use Rattle.host_tree.proofs.PathLemmas.{above-trans}
@@ -8,7 +8,7 @@ use Rattle.host_tree.specs.Paths.{is_above}
 use Rattle.host_tree.specs.declared.entry.Entry.{Entry}
 use Rattle.host_tree.specs.declared.entry.Entry.TheVariants.{File, Directory, Link}
 use Rattle.host_acts.specs.Acts as act
-use Rattle.host_acts.specs.Acts.{Elsewhere, Updates, entry_after, given, makes_prefixes, removes_below}
+use Rattle.host_acts.specs.Acts.{Elsewhere, Updates, entry_after, given, makes_prefixes, or_directory, other_after, removes_below}
 use Rattle.host_acts.specs.Agreeing.{AgreeingByPathSuit, AgreeingSuit, FitAbove, HoldsIn, IsDirectoryWant, Suits, UpdatesKeep}
 use Rattle.host_acts.specs.Tasks.{Task, Work, make_file, make_missing_file, remove_file, make_directory, remove_directory, make_link, remove_link, want_of, wanted_by}
 use Rattle.host_acts.specs.Wants as wants
@@ -125,6 +125,24 @@ lets_directory (wants.file c m) mode = tt
 lets_directory (wants.directory m) mode = tt
 lets_directory (wants.link t) mode = tt
 
+-- what an act leaves of another path than its own, case by case
+elsewhere_of : (task : Task) (host new : Entries) (q : List ℕ) → at new q ≡ other_after task host q → Elsewhere task host new q
+elsewhere_of task host new q is = by (removes_below task.work) (is_above task.path q) (makes_prefixes task.work) (is_above q task.path) refl refl refl refl is
+  where
+    made : makes_prefixes task.work ≡ true → is_above q task.path ≡ true → (entry : Option Entry) → at host q ≡ entry → at new q ≡ or_directory entry → Elsewhere task host new q
+    made makes above None was is = act.made above makes was is
+    made makes above (Some entry) was is = act.stays (is ∙ sym was)
+
+    by : (r b m a : Bool) → removes_below task.work ≡ r → is_above task.path q ≡ b → makes_prefixes task.work ≡ m → is_above q task.path ≡ a → at new q ≡ cond (r && b) None (cond (m && a) (or_directory (at host q)) (at host q))
+        → Elsewhere task host new q
+    by true true m a removes below makes above is = act.gone below removes is
+    by true false true true removes below makes above is = made makes above (at host q) refl is
+    by true false true false removes below makes above is = act.stays is
+    by true false false a removes below makes above is = act.stays is
+    by false b true true removes below makes above is = made makes above (at host q) refl is
+    by false b true false removes below makes above is = act.stays is
+    by false b false a removes below makes above is = act.stays is
+
 module _ (kept : Wanted) (task : Task) (host new : Entries) (suits : Suits kept (wanted_by task)) (held : HoldsIn host kept) (updates : Updates task host new) where
   elsewhere_here : Elsewhere task host new kept.path → IsWanted kept.want (at new kept.path)
   elsewhere_here (act.stays same) = subst (IsWanted kept.want) (sym same) held.here
@@ -141,7 +159,7 @@ module _ (kept : Wanted) (task : Task) (host new : Entries) (suits : Suits kept 
       subst (IsWanted kept.want) (sym there)
       (wanted_after kept.want task.work (at host kept.path) (at common.host kept.path) held.here common.one_holds.here
       (subst (λ (p : List ℕ). IsWanted (want_of task.work) (at common.host p)) (sym is) common.other_holds.here))
-  kept_here_at false apart = elsewhere_here (updates.elsewhere kept.path (λ is. true≢false (sym ((bytes_decides kept.path task.path).1 is) ∙ apart)))
+  kept_here_at false apart = elsewhere_here (elsewhere_of task host new kept.path (updates.elsewhere kept.path (λ is. true≢false (sym ((bytes_decides kept.path task.path).1 is) ∙ apart))))
 
   elsewhere_above : (prefix : List ℕ) → is_above prefix kept.path ≡ true → Elsewhere task host new prefix → LetsBe kept.want (at new prefix)
   elsewhere_above prefix over (act.stays same) = subst (LetsBe kept.want) (sym same) (held.above prefix over)
@@ -154,7 +172,7 @@ module _ (kept : Wanted) (task : Task) (host new : Entries) (suits : Suits kept 
       let is = (bytes_decides prefix task.path).0 same in
       subst (λ (p : List ℕ). LetsBe kept.want (at new p)) (sym is)
       (suits.under (subst (λ (p : List ℕ). is_above p kept.path ≡ true) is over) (at new task.path) updates.done.here)
-  kept_above_at prefix over false apart = elsewhere_above prefix over (updates.elsewhere prefix (λ is. true≢false (sym ((bytes_decides prefix task.path).1 is) ∙ apart)))
+  kept_above_at prefix over false apart = elsewhere_above prefix over (elsewhere_of task host new prefix (updates.elsewhere prefix (λ is. true≢false (sym ((bytes_decides prefix task.path).1 is) ∙ apart))))
 
   pub update_keeps : HoldsIn new kept
   update_keeps = record {

@@ -6,3 +6,5 @@ pub mod ScanLemmas
 pub mod ChangeLemmas
 pub mod BuiltLemmas
 pub mod ActLemmas
+pub mod SameLemmas
+pub mod TableLemmas

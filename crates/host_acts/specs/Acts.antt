@@ -149,6 +149,10 @@ Act host task UpToDate new = IsDone host task × (new ≡ host)
 Act host task (Failed cause) new = (IsDone host task → ⊥) × HasCause host task cause × (new ≡ host)
 Act host task Updated new = (IsDone host task → ⊥) × ((cause : Cause) → HasCause host task cause → ⊥) × Updates task host new
 
+-- an act is determined by the host and the task: its verdict, and what it leaves
+abbrev pub ActsAreDetermined : Type 0
+ActsAreDetermined = (host one other : Entries) (task : Task) (verdict also : Verdict) → Act host task verdict one → Act host task also other → (verdict ≡ also) × (one ≡ other)
+
 -- the same, seen from the task
 abbrev pub ActsTo : Task → Verdict → Entries → Entries → Type 0
 ActsTo task verdict host new = Act host task verdict new

@@ -1,5 +1,5 @@
 -- Wants that agree, and what an act keeps.
-use Rattle.std.specs.Prelude.{◌≡◌, ◌⊎◌, true, Option}
+use Rattle.std.specs.Prelude.{◌≡◌, ◌⊎◌, true, Option, Some, None, ⊤}
 use Rattle.host_tree.specs.Entries.{Entries}
 use Rattle.host_tree.specs.Paths.{is_above}
 use Rattle.host_tree.specs.declared.entry.Entry.{Entry}
@@ -33,6 +33,41 @@ pub record AgreesByPath (one other : Wanted) : Type 0 where
   pub same : one.path ≡ other.path → Agrees one other
   pub over : is_above one.path other.path ≡ true → FitAbove one.want other.want
   pub under : is_above other.path one.path ≡ true → FitAbove other.want one.want
+
+-- what is given twice is the same; what is open goes with anything
+abbrev pub GivesAlike : {X : Type 0} → Option X → Option X → Type 0
+GivesAlike None other = ⊤
+GivesAlike (Some one) None = ⊤
+GivesAlike (Some one) (Some other) = one ≡ other
+
+-- what is wanted of one path twice can be had at once: both times nothing, a file with content and mode alike, a directory with modes alike, or a link to the same
+abbrev pub AreAlike : Want → Want → Type 0
+AreAlike absent absent = ⊤
+AreAlike absent (file content mode) = ⊥
+AreAlike absent (directory mode) = ⊥
+AreAlike absent (link to) = ⊥
+AreAlike (file content mode) absent = ⊥
+AreAlike (file content mode) (file other bits) = GivesAlike content other × GivesAlike mode bits
+AreAlike (file content mode) (directory bits) = ⊥
+AreAlike (file content mode) (link to) = ⊥
+AreAlike (directory mode) absent = ⊥
+AreAlike (directory mode) (file content bits) = ⊥
+AreAlike (directory mode) (directory bits) = GivesAlike mode bits
+AreAlike (directory mode) (link to) = ⊥
+AreAlike (link to) absent = ⊥
+AreAlike (link to) (file content mode) = ⊥
+AreAlike (link to) (directory mode) = ⊥
+AreAlike (link to) (link other) = to ≡ other
+
+-- two wants agree by the table, which asks for no host: at one path they are alike, and where one path is a proper prefix of the other, they fit
+pub record AgreesByTable (one other : Wanted) : Type 0 where
+  pub same : one.path ≡ other.path → AreAlike one.want other.want
+  pub over : is_above one.path other.path ≡ true → FitAbove one.want other.want
+  pub under : is_above other.path one.path ≡ true → FitAbove other.want one.want
+
+-- wants that agree by the table agree: some host has both
+abbrev pub AgreeingByTable : Type 0
+AgreeingByTable = (one other : Wanted) → AgreesByTable one other → Agrees one other
 
 -- what an act that wants the second leaves of the first
 pub record Suits (kept done : Wanted) : Type 0 where

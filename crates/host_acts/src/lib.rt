@@ -14,6 +14,9 @@ mod works;
 
 pub use acts::perform;
 pub use cause::Cause;
-pub use laws::{agreeing_wants_suit, updates_keep_what_suits, wants_that_agree_by_path_suit};
+pub use laws::{
+    acts_are_determined, agreeing_wants_suit, updates_keep_what_suits,
+    wants_that_agree_by_path_suit, wants_that_agree_by_table_agree,
+};
 pub use needs::needs_of;
 pub use verdict::Verdict;

@@ -17,14 +17,14 @@ use Rattle.converge.proofs.chains.perform_next.Goals as goal
 
 pub returns-in-Err-clause-stopped : goal.returns-in-Err-clause-stopped
 returns-in-Err-clause-stopped g c =
-    tells_map (PerformsPart (task_of c.args.plan.now c.args.pair)) (Stopped c.args.plan.now (Now c.args.pair ∷ reverse c.args.todo.now.items) c.args.acts.now.items c.args.acts.now.items c.in-Err.fault)
-    (λ h n part. stopped_in c.args.plan.now c.args.pair (reverse c.args.todo.now.items) c.args.acts.now.items c.in-Err.fault h n part)
+    tells_map (PerformsPart (task_of c.args.plan.now c.args.pair)) (Stopped c.args.plan.now (Now c.args.pair ∷ reverse c.args.todo.now.items) c.args.log.now.acts.items c.args.log.now.acts.items c.in-Err.fault)
+    (λ h n part. stopped_in c.args.plan.now c.args.pair (reverse c.args.todo.now.items) c.args.log.now.acts.items c.in-Err.fault h n part)
     (g.H.Host.tells c.args.host.now) (g.H.Host.tells c.perform_pair.new.host) c.in-Err.ensures.part
 
 pub returns-in-Ok-None-clause-went : goal.returns-in-Ok-None-clause-went
 returns-in-Ok-None-clause-went g c ever =
-    tells_map (Performs (task_of c.args.plan.now c.args.pair) None) (Went c.args.plan.now (Now c.args.pair ∷ reverse c.args.todo.now.items) c.args.acts.now.items ever (reverse c.args.todo.now.items) c.args.acts.now.items ever)
-    (λ h n done. went_none c.args.plan.now c.args.pair (reverse c.args.todo.now.items) c.args.acts.now.items ever h n done)
+    tells_map (Performs (task_of c.args.plan.now c.args.pair) None) (Went c.args.plan.now (Now c.args.pair ∷ reverse c.args.todo.now.items) c.args.log.now.acts.items ever (reverse c.args.todo.now.items) c.args.log.now.acts.items ever)
+    (λ h n done. went_none c.args.plan.now c.args.pair (reverse c.args.todo.now.items) c.args.log.now.acts.items ever h n done)
     (g.H.Host.tells c.args.host.now) (g.H.Host.tells c.perform_pair.new.host)
     (let is : c.in-Ok-None.field-0 ≡ None = cc c.in-Ok-None.field-0-is in
     subst (λ (v : Option Verdict). Tells (Performs (task_of c.args.plan.now c.args.pair) v) (g.H.Host.tells c.args.host.now) (g.H.Host.tells c.perform_pair.new.host)) is c.in-Ok-None.ensures.act)
@@ -34,8 +34,8 @@ returns-in-Ok-None-clause-lighter g c = left_lighter c.args.plan.now c.perform_p
 
 pub returns-in-Ok-clause-went : goal.returns-in-Ok-clause-went
 returns-in-Ok-clause-went g c ever =
-    tells_map (Performs (task_of c.args.plan.now c.args.pair) (Some c.in-Ok-Some.verdict)) (Went c.args.plan.now (Now c.args.pair ∷ reverse c.args.todo.now.items) c.args.acts.now.items ever (reverse c.go_on.new.todo.items) c.go_on.new.acts.items ever)
-    (λ h n done. went_one c.args.plan.now c.args.pair (reverse c.args.todo.now.items) (reverse c.go_on.new.todo.items) c.in-Ok-Some.verdict c.args.acts.now.items c.go_on.new.acts.items ever h n c.in-Ok.ensures.left c.in-Ok.ensures.noted done)
+    tells_map (Performs (task_of c.args.plan.now c.args.pair) (Some c.in-Ok-Some.verdict)) (Went c.args.plan.now (Now c.args.pair ∷ reverse c.args.todo.now.items) c.args.log.now.acts.items ever (reverse c.go_on.new.todo.items) c.go_on.new.log.acts.items ever)
+    (λ h n done. went_one c.args.plan.now c.args.pair (reverse c.args.todo.now.items) (reverse c.go_on.new.todo.items) c.in-Ok-Some.verdict c.args.log.now.acts.items c.go_on.new.log.acts.items ever h n c.in-Ok.ensures.left c.in-Ok.ensures.noted done)
     (g.H.Host.tells c.args.host.now) (g.H.Host.tells c.perform_pair.new.host)
     (let is : c.in-Ok-Some.field-0 ≡ Some c.in-Ok-Some.verdict = cc (c.in-Ok-Some.field-0-is, c.in-Ok-Some.verdict-is) in
     subst (λ (v : Option Verdict). Tells (Performs (task_of c.args.plan.now c.args.pair) v) (g.H.Host.tells c.args.host.now) (g.H.Host.tells c.perform_pair.new.host)) is c.in-Ok-Some.ensures.act)
@@ -52,8 +52,8 @@ returns-in-Ok-clause-ready g c =
 
 pub returns-in-Err-go_on-clause-stopped : goal.returns-in-Err-go_on-clause-stopped
 returns-in-Err-go_on-clause-stopped g c =
-    tells_map (Performs (task_of c.args.plan.now c.args.pair) (Some c.in-Ok-Some.verdict)) (Stopped c.args.plan.now (Now c.args.pair ∷ reverse c.args.todo.now.items) c.args.acts.now.items c.go_on.new.acts.items fault.NoMemory)
-    (λ h n done. stopped_after c.args.plan.now c.args.pair (reverse c.args.todo.now.items) c.in-Ok-Some.verdict c.args.acts.now.items c.go_on.new.acts.items h n done)
+    tells_map (Performs (task_of c.args.plan.now c.args.pair) (Some c.in-Ok-Some.verdict)) (Stopped c.args.plan.now (Now c.args.pair ∷ reverse c.args.todo.now.items) c.args.log.now.acts.items c.go_on.new.log.acts.items fault.NoMemory)
+    (λ h n done. stopped_after c.args.plan.now c.args.pair (reverse c.args.todo.now.items) c.in-Ok-Some.verdict c.args.log.now.acts.items c.go_on.new.log.acts.items h n done)
     (g.H.Host.tells c.args.host.now) (g.H.Host.tells c.perform_pair.new.host)
     (let is : c.in-Ok-Some.field-0 ≡ Some c.in-Ok-Some.verdict = cc (c.in-Ok-Some.field-0-is, c.in-Ok-Some.verdict-is) in
     subst (λ (v : Option Verdict). Tells (Performs (task_of c.args.plan.now c.args.pair) v) (g.H.Host.tells c.args.host.now) (g.H.Host.tells c.perform_pair.new.host)) is c.in-Ok-Some.ensures.act)

@@ -13,15 +13,15 @@ use Rattle.converge.proofs.chains.turn.Goals as goal
 
 pub returns-in-Now-clause-went : goal.returns-in-Now-clause-went
 returns-in-Now-clause-went g c =
-    subst (λ (f : Fire). OnOk c.perform_next.result (Tells (Went c.args.plan.now (f ∷ reverse c.args.todo.now.items) c.args.acts.now.items c.args.queue.now.ever (reverse c.perform_next.new.todo.items) c.perform_next.new.acts.items c.args.queue.now.ever) (g.H.Host.tells c.args.host.now) (g.H.Host.tells c.perform_next.new.host)))
+    subst (λ (f : Fire). OnOk c.perform_next.result (Tells (Went c.args.plan.now (f ∷ reverse c.args.todo.now.items) c.args.log.now.acts.items c.args.queue.now.ever (reverse c.perform_next.new.todo.items) c.perform_next.new.log.acts.items c.args.queue.now.ever) (g.H.Host.tells c.args.host.now) (g.H.Host.tells c.perform_next.new.host)))
     (sym c.in-Now.is) (c.perform_next.ensures.went c.args.queue.now.ever)
 
 pub returns-in-Later-clause-went : goal.returns-in-Later-clause-went
 returns-in-Later-clause-went g c =
-    subst (λ (f : Fire). Tells (Went c.args.plan.now (f ∷ reverse c.args.todo.now.items) c.args.acts.now.items c.args.queue.now.ever (reverse c.args.todo.now.items) c.args.acts.now.items c.queue.new.self.ever) (g.H.Host.tells c.args.host.now) (g.H.Host.tells c.args.host.now))
+    subst (λ (f : Fire). Tells (Went c.args.plan.now (f ∷ reverse c.args.todo.now.items) c.args.log.now.acts.items c.args.queue.now.ever (reverse c.args.todo.now.items) c.args.log.now.acts.items c.queue.new.self.ever) (g.H.Host.tells c.args.host.now) (g.H.Host.tells c.args.host.now))
     (sym c.in-Later.is)
-    (tells_same (Went c.args.plan.now (Later c.in-Later.pair ∷ reverse c.args.todo.now.items) c.args.acts.now.items c.args.queue.now.ever (reverse c.args.todo.now.items) c.args.acts.now.items c.queue.new.self.ever)
-    (λ h. went_queued c.args.plan.now c.in-Later.pair (reverse c.args.todo.now.items) c.args.acts.now.items c.args.queue.now.ever c.queue.new.self.ever h (ap (λ (q : Queued). q.ever) c.queue.ensures))
+    (tells_same (Went c.args.plan.now (Later c.in-Later.pair ∷ reverse c.args.todo.now.items) c.args.log.now.acts.items c.args.queue.now.ever (reverse c.args.todo.now.items) c.args.log.now.acts.items c.queue.new.self.ever)
+    (λ h. went_queued c.args.plan.now c.in-Later.pair (reverse c.args.todo.now.items) c.args.log.now.acts.items c.args.queue.now.ever c.queue.new.self.ever h (ap (λ (q : Queued). q.ever) c.queue.ensures))
     (g.H.Host.tells c.args.host.now) (g.H.Host.tells c.args.host.now) refl)
 
 pub returns-in-Later-clause-queue : goal.returns-in-Later-clause-queue

@@ -1,11 +1,8 @@
 -- A plan that lacks nothing is run, and its end told.
-use Rattle.std.proofs.Common.{List, subst}
-use Rattle.converge.proofs.EndLemmas.{comes_end}
+use Rattle.converge.proofs.EndLemmas.{comes_cut, comes_end}
 use Rattle.converge.proofs.ReadyLemmas.{fires_ready, own_ready}
 use Rattle.converge.proofs.TellsLemmas.{tells_map}
-use Rattle.converge.specs.Ending.{TellsEnd}
 use Rattle.converge.specs.Outcomes.{ComesTo}
-use Rattle.converge.specs.declared.deeds.Deed.{Deed}
 use Rattle.converge.specs.Runs.{IsRunOf}
 use Rattle.converge.proofs.converging.perform_all.Goals as goal
 
@@ -17,6 +14,6 @@ run-requires-clause-fires g c = fires_ready c.args.plan.now (g.H.Host.offers c.a
 
 pub returns-in-Ok-clause-run : goal.returns-in-Ok-clause-run
 returns-in-Ok-clause-run g c =
-    tells_map (IsRunOf c.args.plan.now c.run.new.acts.items) (ComesTo c.args.plan.now c.end_of.result)
-    (λ h n run. comes_end c.args.plan.now c.run.new.acts.items c.end_of.result (subst (λ (a : List Deed). TellsEnd c.args.plan.now a c.end_of.result) c.deref.ensures.value c.end_of.ensures) h n run)
+    tells_map (IsRunOf c.args.plan.now c.run.new.log.acts.items) (ComesTo c.args.plan.now c.end_of.result)
+    (λ h n run. comes_end c.args.plan.now c.run.new.log.acts.items c.run.new.log.lines c.end_of.result (c.run.ensures.told (λ is. cc)) c.end_of.ensures h n run)
     (g.H.Host.tells c.args.host.now) (g.H.Host.tells c.run.new.host) c.in-Ok.ensures.run

@@ -19,42 +19,43 @@ use Rattle.converge.proofs.runs.run.Goals as goal
 
 pub returns-in_default-clause-stopped : goal.returns-in_default-clause-stopped
 returns-in_default-clause-stopped g c =
-    tells_same (RunStopped c.args.plan.now c.args.acts.now.items fault.NoMemory) (λ h. subst (λ (a : List Deed). RunStopped c.args.plan.now a fault.NoMemory h h) (sym c.requires.empty) (stopped_first c.args.plan.now h))
+    tells_same (RunStopped c.args.plan.now c.args.log.now.acts.items fault.NoMemory) (λ h. subst (λ (a : List Deed). RunStopped c.args.plan.now a fault.NoMemory h h) (sym c.requires.empty) (stopped_first c.args.plan.now h))
     (g.H.Host.tells c.args.host.now) (g.H.Host.tells c.args.host.now) refl
 
 pub returns-in_default-own_fires-clause-stopped : goal.returns-in_default-own_fires-clause-stopped
 returns-in_default-own_fires-clause-stopped g c =
-    tells_same (RunStopped c.args.plan.now c.args.acts.now.items fault.NoMemory) (λ h. subst (λ (a : List Deed). RunStopped c.args.plan.now a fault.NoMemory h h) (sym c.requires.empty) (stopped_first c.args.plan.now h))
+    tells_same (RunStopped c.args.plan.now c.args.log.now.acts.items fault.NoMemory) (λ h. subst (λ (a : List Deed). RunStopped c.args.plan.now a fault.NoMemory h h) (sym c.requires.empty) (stopped_first c.args.plan.now h))
     (g.H.Host.tells c.args.host.now) (g.H.Host.tells c.args.host.now) refl
 
 pub returns-in-Err-clause-stopped : goal.returns-in-Err-clause-stopped
 returns-in-Err-clause-stopped g c =
     let work : reverse c.in-Ok-own_fires.work.items ≡ own_fires c.args.plan.now = ap reverse c.in-Ok-own_fires.ensures ∙ reverse-reverse (own_fires c.args.plan.now) in
-    tells_map (Stopped c.args.plan.now (own_fires c.args.plan.now) [] c.chain.new.acts.items c.in-Err.fault) (RunStopped c.args.plan.now c.chain.new.acts.items c.in-Err.fault)
-    (λ h n s. stopped_own c.args.plan.now c.chain.new.acts.items c.in-Err.fault h n s) (g.H.Host.tells c.args.host.now) (g.H.Host.tells c.chain.new.host)
-    (subst (λ (l : List Fire). Tells (Stopped c.args.plan.now l [] c.chain.new.acts.items c.in-Err.fault) (g.H.Host.tells c.args.host.now) (g.H.Host.tells c.chain.new.host)) work
-    (subst (λ (a : List Deed). Tells (Stopped c.args.plan.now (reverse c.in-Ok-own_fires.work.items) a c.chain.new.acts.items c.in-Err.fault) (g.H.Host.tells c.args.host.now) (g.H.Host.tells c.chain.new.host)) c.requires.empty c.in-Err.ensures.stopped))
+    tells_map (Stopped c.args.plan.now (own_fires c.args.plan.now) [] c.chain.new.log.acts.items c.in-Err.fault) (RunStopped c.args.plan.now c.chain.new.log.acts.items c.in-Err.fault)
+    (λ h n s. stopped_own c.args.plan.now c.chain.new.log.acts.items c.in-Err.fault h n s) (g.H.Host.tells c.args.host.now) (g.H.Host.tells c.chain.new.host)
+    (subst (λ (l : List Fire). Tells (Stopped c.args.plan.now l [] c.chain.new.log.acts.items c.in-Err.fault) (g.H.Host.tells c.args.host.now) (g.H.Host.tells c.chain.new.host)) work
+    (subst (λ (a : List Deed). Tells (Stopped c.args.plan.now (reverse c.in-Ok-own_fires.work.items) a c.chain.new.log.acts.items c.in-Err.fault) (g.H.Host.tells c.args.host.now) (g.H.Host.tells c.chain.new.host)) c.requires.empty c.in-Err.ensures.stopped))
 
 pub loop-pair-init : goal.loop-pair-init
 loop-pair-init g c =
     let work : reverse c.in-Ok-own_fires.work.items ≡ own_fires c.args.plan.now = ap reverse c.in-Ok-own_fires.ensures ∙ reverse-reverse (own_fires c.args.plan.now) in
     let ever : c.in-Ok.queue.ever ≡ [] = ap (λ (q : Queued). q.ever) c.in-Ok.ensures in
     let taken : c.chain.new.queue.taken ≡ 0 = c.chain.ensures.taken ∙ ap (λ (q : Queued). q.taken) c.in-Ok.ensures in (
-      tells_map (Went c.args.plan.now (own_fires c.args.plan.now) [] [] [] c.chain.new.acts.items c.chain.new.queue.ever) (IsRunning c.args.plan.now c.chain.new.acts.items c.chain.new.queue.ever c.chain.new.queue.taken)
-          (λ h n w. subst (λ (k : ℕ). Running c.args.plan.now c.chain.new.acts.items c.chain.new.queue.ever k h n) (sym taken) (running_first c.args.plan.now c.chain.new.acts.items c.chain.new.queue.ever h n w))
+      tells_map (Went c.args.plan.now (own_fires c.args.plan.now) [] [] [] c.chain.new.log.acts.items c.chain.new.queue.ever) (IsRunning c.args.plan.now c.chain.new.log.acts.items c.chain.new.queue.ever c.chain.new.queue.taken)
+          (λ h n w. subst (λ (k : ℕ). Running c.args.plan.now c.chain.new.log.acts.items c.chain.new.queue.ever k h n) (sym taken) (running_first c.args.plan.now c.chain.new.log.acts.items c.chain.new.queue.ever h n w))
           (g.H.Host.tells c.args.host.now) (g.H.Host.tells c.chain.new.host)
-          (subst (λ (l : List Fire). Tells (Went c.args.plan.now l [] [] [] c.chain.new.acts.items c.chain.new.queue.ever) (g.H.Host.tells c.args.host.now) (g.H.Host.tells c.chain.new.host)) work
-          (subst (λ (a : List Deed). Tells (Went c.args.plan.now (reverse c.in-Ok-own_fires.work.items) a [] [] c.chain.new.acts.items c.chain.new.queue.ever) (g.H.Host.tells c.args.host.now) (g.H.Host.tells c.chain.new.host)) c.requires.empty
-          (subst (λ (e : List Pair). Tells (Went c.args.plan.now (reverse c.in-Ok-own_fires.work.items) c.args.acts.now.items e [] c.chain.new.acts.items c.chain.new.queue.ever) (g.H.Host.tells c.args.host.now) (g.H.Host.tells c.chain.new.host)) ever c.in_default-chain.ensures.went))),
+          (subst (λ (l : List Fire). Tells (Went c.args.plan.now l [] [] [] c.chain.new.log.acts.items c.chain.new.queue.ever) (g.H.Host.tells c.args.host.now) (g.H.Host.tells c.chain.new.host)) work
+          (subst (λ (a : List Deed). Tells (Went c.args.plan.now (reverse c.in-Ok-own_fires.work.items) a [] [] c.chain.new.log.acts.items c.chain.new.queue.ever) (g.H.Host.tells c.args.host.now) (g.H.Host.tells c.chain.new.host)) c.requires.empty
+          (subst (λ (e : List Pair). Tells (Went c.args.plan.now (reverse c.in-Ok-own_fires.work.items) c.args.log.now.acts.items e [] c.chain.new.log.acts.items c.chain.new.queue.ever) (g.H.Host.tells c.args.host.now) (g.H.Host.tells c.chain.new.host)) ever c.in_default-chain.ensures.went))),
       c.chain.ensures.queue,
       c.chain.ensures.offers,
-      c.chain.ensures.cause.later,
+      c.chain.ensures.cause.unfailed (λ is. cc),
+      c.chain.ensures.told (λ is. cc),
     )
 
 pub returns-in_default-one-clause-stopped : goal.returns-in_default-one-clause-stopped
 returns-in_default-one-clause-stopped g c =
-    tells_map (IsRunning c.args.plan.now c.loop-pair.acts.items c.loop-pair.queue.ever c.loop-pair.queue.taken) (RunStopped c.args.plan.now c.loop-pair.acts.items fault.NoMemory)
-    (λ h n r. stopped_between c.args.plan.now c.loop-pair.acts.items c.loop-pair.queue.ever c.loop-pair.queue.taken h n r) (g.H.Host.tells c.args.host.now) (g.H.Host.tells c.loop-pair.host) c.loop-pair.invariant.0
+    tells_map (IsRunning c.args.plan.now c.loop-pair.log.acts.items c.loop-pair.queue.ever c.loop-pair.queue.taken) (RunStopped c.args.plan.now c.loop-pair.log.acts.items fault.NoMemory)
+    (λ h n r. stopped_between c.args.plan.now c.loop-pair.log.acts.items c.loop-pair.queue.ever c.loop-pair.queue.taken h n r) (g.H.Host.tells c.args.host.now) (g.H.Host.tells c.loop-pair.host) c.loop-pair.invariant.0
 
 pub chain-requires-in-Some-clause-ready : goal.chain-requires-in-Some-clause-ready
 chain-requires-in-Some-clause-ready g c =
@@ -64,11 +65,11 @@ chain-requires-in-Some-clause-ready g c =
 
 pub returns-in-Err-chain-clause-stopped : goal.returns-in-Err-chain-clause-stopped
 returns-in-Err-chain-clause-stopped g c =
-    tells_then (IsRunning c.args.plan.now c.loop-pair.acts.items c.loop-pair.queue.ever c.loop-pair.queue.taken) (Stopped c.args.plan.now (Now c.in-Some.pair ∷ []) c.loop-pair.acts.items c.chain-in-Some.new.acts.items c.in-Err-chain.fault)
-    (RunStopped c.args.plan.now c.chain-in-Some.new.acts.items c.in-Err-chain.fault)
-    (λ h m n r s. stopped_queued c.args.plan.now c.loop-pair.acts.items c.chain-in-Some.new.acts.items c.loop-pair.queue.ever c.loop-pair.queue.taken c.in-Some.pair c.in-Err-chain.fault h m n (sym c.in-Some.ensures.value) r s)
+    tells_then (IsRunning c.args.plan.now c.loop-pair.log.acts.items c.loop-pair.queue.ever c.loop-pair.queue.taken) (Stopped c.args.plan.now (Now c.in-Some.pair ∷ []) c.loop-pair.log.acts.items c.chain-in-Some.new.log.acts.items c.in-Err-chain.fault)
+    (RunStopped c.args.plan.now c.chain-in-Some.new.log.acts.items c.in-Err-chain.fault)
+    (λ h m n r s. stopped_queued c.args.plan.now c.loop-pair.log.acts.items c.chain-in-Some.new.log.acts.items c.loop-pair.queue.ever c.loop-pair.queue.taken c.in-Some.pair c.in-Err-chain.fault h m n (sym c.in-Some.ensures.value) r s)
     (g.H.Host.tells c.args.host.now) (g.H.Host.tells c.loop-pair.host) (g.H.Host.tells c.chain-in-Some.new.host) c.loop-pair.invariant.0
-    (subst (λ (fs : List Fire). Tells (Stopped c.args.plan.now (reverse fs) c.loop-pair.acts.items c.chain-in-Some.new.acts.items c.in-Err-chain.fault) (g.H.Host.tells c.loop-pair.host) (g.H.Host.tells c.chain-in-Some.new.host)) c.in-Ok-one.ensures c.in-Err-chain.ensures.stopped)
+    (subst (λ (fs : List Fire). Tells (Stopped c.args.plan.now (reverse fs) c.loop-pair.log.acts.items c.chain-in-Some.new.log.acts.items c.in-Err-chain.fault) (g.H.Host.tells c.loop-pair.host) (g.H.Host.tells c.chain-in-Some.new.host)) c.in-Ok-one.ensures c.in-Err-chain.ensures.stopped)
 
 -- one more was taken
 one_taken : (ever : List Pair) (k m n : ℕ) (p : Pair) → Some p ≡ slice_get ever k → m ≡ min (k + 1) (length ever) → n ≡ m → n ≡ suc k
@@ -84,21 +85,22 @@ loop-pair-smaller g c =
 pub loop-pair-preserved : goal.loop-pair-preserved
 loop-pair-preserved g c =
     let taken : c.chain-in-Some.new.queue.taken ≡ suc c.loop-pair.queue.taken = one_taken c.loop-pair.queue.ever c.loop-pair.queue.taken c.next.new.self.taken c.chain-in-Some.new.queue.taken c.in-Some.pair c.in-Some.ensures.value (ap (λ (q : Queued). q.taken) c.next.ensures.after) c.chain-in-Some.ensures.taken in (
-      tells_then (IsRunning c.args.plan.now c.loop-pair.acts.items c.loop-pair.queue.ever c.loop-pair.queue.taken)
-          (Went c.args.plan.now (Now c.in-Some.pair ∷ []) c.loop-pair.acts.items c.loop-pair.queue.ever [] c.chain-in-Some.new.acts.items c.chain-in-Some.new.queue.ever)
-          (IsRunning c.args.plan.now c.chain-in-Some.new.acts.items c.chain-in-Some.new.queue.ever c.chain-in-Some.new.queue.taken)
-          (λ h m n r w. subst (λ (k : ℕ). Running c.args.plan.now c.chain-in-Some.new.acts.items c.chain-in-Some.new.queue.ever k h n) (sym taken)
-          (running_more c.args.plan.now c.loop-pair.acts.items c.chain-in-Some.new.acts.items c.loop-pair.queue.ever c.chain-in-Some.new.queue.ever c.loop-pair.queue.taken c.in-Some.pair h m n (sym c.in-Some.ensures.value) r w))
+      tells_then (IsRunning c.args.plan.now c.loop-pair.log.acts.items c.loop-pair.queue.ever c.loop-pair.queue.taken)
+          (Went c.args.plan.now (Now c.in-Some.pair ∷ []) c.loop-pair.log.acts.items c.loop-pair.queue.ever [] c.chain-in-Some.new.log.acts.items c.chain-in-Some.new.queue.ever)
+          (IsRunning c.args.plan.now c.chain-in-Some.new.log.acts.items c.chain-in-Some.new.queue.ever c.chain-in-Some.new.queue.taken)
+          (λ h m n r w. subst (λ (k : ℕ). Running c.args.plan.now c.chain-in-Some.new.log.acts.items c.chain-in-Some.new.queue.ever k h n) (sym taken)
+          (running_more c.args.plan.now c.loop-pair.log.acts.items c.chain-in-Some.new.log.acts.items c.loop-pair.queue.ever c.chain-in-Some.new.queue.ever c.loop-pair.queue.taken c.in-Some.pair h m n (sym c.in-Some.ensures.value) r w))
           (g.H.Host.tells c.args.host.now) (g.H.Host.tells c.loop-pair.host) (g.H.Host.tells c.chain-in-Some.new.host) c.loop-pair.invariant.0
-          (subst (λ (e : List Pair). Tells (Went c.args.plan.now (Now c.in-Some.pair ∷ []) c.loop-pair.acts.items e [] c.chain-in-Some.new.acts.items c.chain-in-Some.new.queue.ever) (g.H.Host.tells c.loop-pair.host) (g.H.Host.tells c.chain-in-Some.new.host)) (ap (λ (q : Queued). q.ever) c.next.ensures.after)
-          (subst (λ (fs : List Fire). Tells (Went c.args.plan.now (reverse fs) c.loop-pair.acts.items c.next.new.self.ever [] c.chain-in-Some.new.acts.items c.chain-in-Some.new.queue.ever) (g.H.Host.tells c.loop-pair.host) (g.H.Host.tells c.chain-in-Some.new.host)) c.in-Ok-one.ensures c.in_default-chain-2.ensures.went)),
+          (subst (λ (e : List Pair). Tells (Went c.args.plan.now (Now c.in-Some.pair ∷ []) c.loop-pair.log.acts.items e [] c.chain-in-Some.new.log.acts.items c.chain-in-Some.new.queue.ever) (g.H.Host.tells c.loop-pair.host) (g.H.Host.tells c.chain-in-Some.new.host)) (ap (λ (q : Queued). q.ever) c.next.ensures.after)
+          (subst (λ (fs : List Fire). Tells (Went c.args.plan.now (reverse fs) c.loop-pair.log.acts.items c.next.new.self.ever [] c.chain-in-Some.new.log.acts.items c.chain-in-Some.new.queue.ever) (g.H.Host.tells c.loop-pair.host) (g.H.Host.tells c.chain-in-Some.new.host)) c.in-Ok-one.ensures c.in_default-chain-2.ensures.went)),
       subst (λ (caps : Caps). IsQueueOf c.args.plan.now caps c.chain-in-Some.new.queue) c.loop-pair.invariant.2 c.chain-in-Some.ensures.queue,
       c.chain-in-Some.ensures.offers ∙ c.loop-pair.invariant.2,
-      omega (arith, c.loop-pair.invariant.3, c.chain-in-Some.ensures.cause.later),
+      c.chain-in-Some.ensures.cause.unfailed (λ is. cc) ∙ c.loop-pair.invariant.3,
+      c.chain-in-Some.ensures.told (λ is. cc),
     )
 
 pub returns-clause-run : goal.returns-clause-run
 returns-clause-run g c =
-    tells_map (IsRunning c.args.plan.now c.loop-pair.acts.items c.loop-pair.queue.ever c.loop-pair.queue.taken) (IsRunOf c.args.plan.now c.loop-pair.acts.items)
-    (λ h n r. running_end c.args.plan.now c.loop-pair.acts.items c.loop-pair.queue.ever c.loop-pair.queue.taken h n (sym c.next.ensures.value ∙ c.in_default-next.is) r)
+    tells_map (IsRunning c.args.plan.now c.loop-pair.log.acts.items c.loop-pair.queue.ever c.loop-pair.queue.taken) (IsRunOf c.args.plan.now c.loop-pair.log.acts.items)
+    (λ h n r. running_end c.args.plan.now c.loop-pair.log.acts.items c.loop-pair.queue.ever c.loop-pair.queue.taken h n (sym c.next.ensures.value ∙ c.in_default-next.is) r)
     (g.H.Host.tells c.args.host.now) (g.H.Host.tells c.loop-pair.host) c.loop-pair.invariant.0

@@ -10,7 +10,7 @@ pub loop-end-init : goal.loop-end-init
 loop-end-init g c = record {
   built = tells_stays (λ h. BreaksAt h c.args.path.now c.args.found) (BuiltUpTo c.args.path.now c.args.found.end) (λ h breaks. built-none c.args.path.now c.args.found h breaks) _ _ c.requires.broken refl;
   offers = refl;
-  later = omega arith;
+  unfailed = refl;
 }
 
 pub make_prefix-requires-clause-missing : goal.make_prefix-requires-clause-missing
@@ -28,5 +28,5 @@ loop-end-preserved g c =
           (λ h m n breaks built makes. built_more c.args.path.now c.args.found h m c.loop-end.end breaks c.requires.missing built c.loop-end.auto.end within n makes) _ _ _
           c.requires.broken c.loop-end.invariant.built c.in_ok-make_prefix.ensures.ok;
       offers = c.in_ok-make_prefix.ensures.offers ∙ c.loop-end.invariant.offers;
-      later = omega (arith, c.in_ok-make_prefix.ensures.cause.later, c.loop-end.invariant.later);
+      unfailed = c.in_ok-make_prefix.ensures.cause.unfailed (λ is. cc) ∙ c.loop-end.invariant.unfailed;
     }

@@ -23,7 +23,7 @@ loop-end-preserved g c =
     record {
       kept = c.in_ok-over.ensures.kept ∙ c.loop-end.invariant.kept;
       offers = c.in_ok-over.ensures.offers ∙ c.loop-end.invariant.offers;
-      later = omega (arith, c.in_ok-over.ensures.cause.later, c.loop-end.invariant.later);
+      unfailed = c.in_ok-over.ensures.cause.unfailed (λ is. cc) ∙ c.loop-end.invariant.unfailed;
       reached = told_two (ReachesTo c.args.path.now c.loop-end.end) (λ h. c.in_ok-over.field-0 ≡ obstacle_ending h c.args.path.now c.loop-end.end) _
           (λ h reach is. scan-more c.args.path.now c.loop-end.end h (omega arith) within reach (sym c.in_default.is ∙ is)) _
           c.loop-end.invariant.reached seen;
