@@ -129,25 +129,25 @@ impl Group for Access {
         operation: AccessOperation,
         _steps: &mut Steps<L>,
     ) -> Result<Prepared, Stop> {
-        Ok(match operation {
-            AccessOperation::ListGroups => groups::list(alloc, context)?,
-            AccessOperation::CreateGroup(name) => groups::create(alloc, context, name)?,
-            AccessOperation::ShowGroup(name) => groups::show(alloc, context, &name)?,
+        match operation {
+            AccessOperation::ListGroups => groups::list(alloc, context),
+            AccessOperation::CreateGroup(name) => groups::create(alloc, context, name),
+            AccessOperation::ShowGroup(name) => groups::show(alloc, context, name),
             AccessOperation::ReplaceGroup(name, group) => {
-                groups::replace(alloc, context, name, &group)?
+                groups::replace(alloc, context, name, group)
             }
-            AccessOperation::RemoveGroup(name) => groups::remove(alloc, context, name)?,
-            AccessOperation::ListUsers => users::list(alloc, context)?,
-            AccessOperation::CreateUser(name) => users::create(alloc, context, &name)?,
-            AccessOperation::ShowUser(name) => users::show(alloc, &name)?,
-            AccessOperation::RemoveUser(name) => users::remove(alloc, name)?,
-            AccessOperation::ListContainers => containers::list(alloc, context)?,
-            AccessOperation::ShowContainer(name) => containers::show(alloc, &name)?,
-            AccessOperation::ShowList(key) => lists::show(alloc, &key, context.state)?,
+            AccessOperation::RemoveGroup(name) => groups::remove(alloc, context, name),
+            AccessOperation::ListUsers => users::list(alloc, context),
+            AccessOperation::CreateUser(name) => users::create(alloc, context, name),
+            AccessOperation::ShowUser(name) => users::show(alloc, name),
+            AccessOperation::RemoveUser(name) => users::remove(alloc, name),
+            AccessOperation::ListContainers => containers::list(alloc, context),
+            AccessOperation::ShowContainer(name) => containers::show(alloc, name),
+            AccessOperation::ShowList(key) => lists::show(alloc, context, key),
             AccessOperation::ReplaceEntry(key, permission, entry) => {
-                lists::replace(alloc, key, permission, entry, context.state)?
+                lists::replace(alloc, context, key, permission, entry)
             }
-        })
+        }
     }
 }
 

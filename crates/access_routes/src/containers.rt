@@ -4,6 +4,7 @@ ghost use Rattle.std.specs.Prelude.{◌≡◌, Ok, IfOk, OnOk, map};
 ghost use Rattle.access_lists.specs.Starting.{containers, name_of};
 ghost use Rattle.doc_tree.specs.Doc.{words};
 ghost use Rattle.doc_tree.specs.Part.{with_pair};
+ghost use Rattle.doc_tree.specs.Tree.{doc_of};
 ghost use Rattle.org_core.specs.Contexts.{seen};
 ghost use Rattle.org_core.specs.Outcomes.{Finds, shows, tells};
 ghost use Rattle.org_core.specs.Refusals.{Tells};
@@ -11,9 +12,10 @@ ghost use Rattle.access_routes.specs.AccessRules as rules;
 ghost use Rattle.access_routes.specs.Containers as spec;
 
 use crate::operations::AccessOperation;
+use crate::prepared::{or_stop, told};
 use access_lists::Container;
 use doc_tree::{Fields, NoMemory, Text, Texts, Tree};
-use org_core::{Context, Moves, Prepared, Refusal, Stop, joined, org_uri, shown, shown_paths};
+use org_core::{Context, Moves, Prepared, Refusal, Stop, joined, org_uri, shown_paths};
 use route_table::Verb;
 use std::alloc::Global;
 
@@ -53,8 +55,14 @@ pub(crate) fn lacks_container(name: &Text) -> bool
 }
 
 /// Each container's name with its path.
+pub(crate) fn list(alloc: Global, context: Context<'_>) -> Result<Prepared, Stop>
+    ensures { Finds result (spec.containers_listed (seen context.entry)).answer }
+{
+    or_stop(listed(alloc, context))
+}
+
 #[tactic(auto, using(crate::proofs::ContainersLemmas::names_rise))]
-pub(crate) fn list(alloc: Global, context: Context<'_>) -> Result<Prepared, NoMemory>
+fn listed(alloc: Global, context: Context<'_>) -> Result<Prepared, NoMemory>
     ensures { IfOk result (λ p. Finds (Ok p) (spec.containers_listed (seen context.entry)).answer) }
 {
     let front = joined(alloc, org_uri(alloc, context.org)?.as_str(), "/containers/")?;
@@ -78,16 +86,19 @@ fn names(alloc: Global) -> Result<Texts, NoMemory>
 }
 
 /// A container is shown.
-pub(crate) fn show(alloc: Global, name: &Text) -> Result<Prepared, NoMemory>
-    ensures { IfOk result (λ p. Finds (Ok p) (tells (shows (spec.container_doc name.now))).answer) }
+pub(crate) fn show(alloc: Global, name: Text) -> Result<Prepared, Stop>
+    ensures { Finds result (tells (shows (spec.container_doc name))).answer }
+{
+    let tree = container_tree(alloc, &name)?;
+    or_stop(told(alloc, tree))
+}
+
+fn container_tree(alloc: Global, name: &Text) -> Result<Tree, NoMemory>
+    ensures { IfOk result (λ tree. doc_of tree ≡ spec.container_doc name.now) }
 {
     let mut fields = Fields::with_capacity(alloc, 2)?;
     put_text(alloc, &mut fields, "containername", name)?;
-    put_text(alloc, &mut fields, "containerpath", name)?;
-    Ok(Prepared {
-        reply: shown(alloc, &Tree::Dict(fields))?,
-        moves: Moves::new(alloc),
-    })
+    put_text(alloc, &mut fields, "containerpath", name).and(Ok(Tree::Dict(fields)))
 }
 
 fn put_text(alloc: Global, fields: &mut Fields, key: &str, text: &Text) -> Result<(), NoMemory>

@@ -1,24 +1,31 @@
 //! The routes of groups.
 
-ghost use Rattle.std.specs.Prelude.{◌≡◌, ◌++◌, Ok, IfOk, OnOk, option_map};
+ghost use Rattle.std.specs.Prelude.{◌≡◌, [], ◌∷◌, ◌++◌, Ok, IfOk, OnOk, option_map};
 ghost use Rattle.access_lists.specs.Lists.{members_of};
+ghost use Rattle.access_lists.specs.Starting.{no_members};
+ghost use Rattle.access_lists.specs.declared.starting.Container.TheVariants as container;
+ghost use Rattle.doc_tree.specs.Doc.{dict, pairs_of, words};
 ghost use Rattle.doc_tree.specs.Name.{is_name};
 ghost use Rattle.doc_tree.specs.Part.{part_at, with_pair};
 ghost use Rattle.doc_tree.specs.Tree.{doc_of};
+ghost use Rattle.object_store.specs.Objects.{key};
 ghost use Rattle.org_core.specs.Contexts.{seen};
-ghost use Rattle.org_core.specs.Outcomes.{Finds, tells};
+ghost use Rattle.org_core.specs.Creating.{created_by, created_list as spec_created_list};
+ghost use Rattle.org_core.specs.Outcomes.{Finds, does_by, shows, tells};
 ghost use Rattle.org_core.specs.Refusals.{Tells};
 ghost use Rattle.org_core.specs.States.{membership_of, state_in};
 ghost use Rattle.access_routes.specs.AccessRules as rules;
 ghost use Rattle.access_routes.specs.Groups as spec;
 
 use crate::operations::AccessOperation;
+use crate::prepared::{or_stop, reply_with, told, with_moves};
+use crate::trees::put;
 use access_lists::{Container, Group as AGroup, MemberKind, TextSet, texts_tree};
 use doc_tree::{Fields, Kind, NoMemory, Text, Tree, is_name};
 use org_core::{
     Body, Context, GroupMembers, Move, Moves, OrgState, Prepared, Refusal, Stop, Stored, absent,
-    create_by, created_list, joined, key_of, named_by, object_in_body, object_named, one_move,
-    org_uri, shown, shown_paths,
+    add_both, create_by, created_list, joined, key_of, named_by, object_in_body, object_named,
+    one_move, org_uri, shown_paths,
 };
 use route_table::Verb;
 use std::alloc::Global;
@@ -32,8 +39,9 @@ pub(crate) fn groups_asked(alloc: Global, verb: Verb, body: &Body) -> Result<Acc
         Verb::Get => Ok(AccessOperation::ListGroups),
         Verb::Post => {
             let group = object_in_body(alloc, Kind::Group, None, body)?;
-            let name = Text::from_str(alloc, named_by("groupname", group.tree()))?;
-            Ok(AccessOperation::CreateGroup(name))
+            let name = Text::from_str(alloc, named_by("groupname", group.tree()));
+            drop(group);
+            Ok(AccessOperation::CreateGroup(name?))
         }
         Verb::Put | Verb::Delete | Verb::Other => Err(Stop::Refused(Refusal::NotAllowed)),
     }
@@ -62,8 +70,8 @@ fn put_group(alloc: Global, name: &Text, body: &Body) -> Result<AccessOperation,
     if !is_name(name.as_str()) {
         return Err(Stop::Refused(absent(body)));
     }
-    let group = object_named(alloc, Kind::Group, name, body)?;
-    Ok(AccessOperation::ReplaceGroup(name.copy(alloc)?, group))
+    let own = name.copy(alloc)?;
+    Ok(AccessOperation::ReplaceGroup(own, object_named(alloc, Kind::Group, name, body)?))
 }
 
 /// Whether the organisation has no group of this name, which may have no name's form.
@@ -161,46 +169,95 @@ fn part<'a>(tree: &'a Tree, field: &str) -> Option<&'a Tree>
 }
 
 /// Each group's name with its path.
-pub(crate) fn list(alloc: Global, context: Context<'_>) -> Result<Prepared, NoMemory>
-    ensures { IfOk result (λ p. Finds (Ok p) (spec.groups_listed (seen context.entry)).answer) }
+pub(crate) fn list(alloc: Global, context: Context<'_>) -> Result<Prepared, Stop>
+    ensures { Finds result (spec.groups_listed (seen context.entry)).answer }
 {
     let front = groups_front(alloc, context.org)?;
     let names = context.state.groups().names(alloc, MemberKind::Group)?;
-    let reply = shown_paths(alloc, front.as_str(), names.as_slice())?;
-    Ok(Prepared {
-        reply,
-        moves: Moves::new(alloc),
-    })
+    let reply = shown_paths(alloc, front.as_str(), names.as_slice());
+    or_stop(with_moves(reply, Moves::new(alloc)))
 }
 
 /// A group is created without members.
-pub(crate) fn create(alloc: Global, context: Context<'_>, name: Text) -> Result<Prepared, NoMemory>
-    ensures { IfOk result (λ p. Finds (Ok p) (spec.group_created (seen context.entry) name).answer) }
+pub(crate) fn create(alloc: Global, context: Context<'_>, name: Text) -> Result<Prepared, Stop>
+    ensures { Finds result (spec.group_created (seen context.entry) name).answer }
 {
-    let front = groups_front(alloc, context.org)?;
-    let path = joined(alloc, front.as_str(), name.as_str())?;
-    let key = key_of(alloc, Kind::Group, name.as_str())?;
-    let list = created_list(alloc, context, Container::Groups)?;
-    let nobody = GroupMembers::of(AGroup::with(alloc, context.state.hasher(), &[], &[], &[])?);
+    let path = group_path(alloc, context.org, &name)?;
+    or_stop(created_at(alloc, context, path, name))
+}
+
+fn group_path(alloc: Global, org: &Text, name: &Text) -> Result<Text, NoMemory>
+    ensures { IfOk result (λ path. path ≡ spec.groups_front org.now ++ name.now) }
+{
+    joined(alloc, groups_front(alloc, org)?.as_str(), name.as_str())
+}
+
+/// 201 with the path of a new group.
+fn created_at(
+    alloc: Global,
+    context: Context<'_>,
+    path: Text,
+    name: Text,
+) -> Result<Prepared, NoMemory>
+    ensures { IfOk result (λ p. Finds (Ok p) (created_by path (Move.PutGroup name no_members ∷ Move.PutList (key Kind.Group name) (spec_created_list container.Groups (seen context.entry)) ∷ [])).answer) }
+{
+    let list = list_comes(alloc, context, &name)?;
     let mut moves = Moves::new(alloc);
-    moves.push(Move::PutGroup(name, nobody))?;
-    moves.push(Move::PutList(key, list))?;
+    add_group(alloc, context, name, list, &mut moves)?;
     create_by(alloc, path, moves)
 }
 
-/// A group is shown.
-pub(crate) fn show(alloc: Global, context: Context<'_>, name: &Text) -> Result<Prepared, NoMemory>
-    ensures { IfOk result (λ p. Finds (Ok p) (tells (spec.group_shown context.entry.org.now name.now (state_in context.entry.state.now))).answer) }
+/// The move by which the list of a new group comes.
+fn list_comes(alloc: Global, context: Context<'_>, name: &Text) -> Result<Move, NoMemory>
+    ensures { IfOk result (λ one. one ≡ Move.PutList (key Kind.Group name.now) (spec_created_list container.Groups (seen context.entry))) }
 {
-    let tree = kept_tree(alloc, context, name)?;
-    Ok(Prepared {
-        reply: shown(alloc, &tree)?,
-        moves: Moves::new(alloc),
-    })
+    let key = key_of(alloc, Kind::Group, name.as_str())?;
+    Ok(Move::PutList(key, created_list(alloc, context, Container::Groups)?))
+}
+
+/// Adds the move by which a group comes without members, and behind it the one by which its list comes.
+fn add_group(
+    alloc: Global,
+    context: Context<'_>,
+    name: Text,
+    list: Move,
+    moves: &mut Moves,
+) -> Result<(), NoMemory>
+    requires { moves.old ≡ [] }
+    ensures { OnOk result (moves.new ≡ Move.PutGroup name no_members ∷ list ∷ []) }
+{
+    match members(alloc, context.state.hasher(), &[], &[], &[]) {
+        Ok(nobody) => add_both(moves, Move::PutGroup(name, nobody), list),
+        Err(fault) => {
+            drop(list);
+            Err(fault)
+        }
+    }
+}
+
+/// A group is shown.
+pub(crate) fn show(alloc: Global, context: Context<'_>, name: Text) -> Result<Prepared, Stop>
+    ensures { Finds result (tells (spec.group_shown context.entry.org.now name (state_in context.entry.state.now))).answer }
+{
+    let tree = kept_tree(alloc, context, &name)?;
+    or_stop(told(alloc, tree))
 }
 
 /// The members of a group are those that the body lists.
 pub(crate) fn replace(
+    alloc: Global,
+    context: Context<'_>,
+    name: Text,
+    group: Stored,
+) -> Result<Prepared, Stop>
+    ensures { Finds result (spec.group_replaced (seen context.entry) name group).answer }
+{
+    let prepared = replaced(alloc, context, name, &group);
+    drop(group);
+    or_stop(prepared)
+}
+
+fn replaced(
     alloc: Global,
     context: Context<'_>,
     name: Text,
@@ -212,8 +269,22 @@ pub(crate) fn replace(
     let clients = sent(alloc, MemberKind::Client, group)?;
     let groups = sent(alloc, MemberKind::Group, group)?;
     let (users, clients, groups) = (users.as_slice(), clients.as_slice(), groups.as_slice());
+    put_told(alloc, context, name, users, clients, groups)
+}
+
+/// 200 with a group of these members, which is put in.
+fn put_told(
+    alloc: Global,
+    context: Context<'_>,
+    name: Text,
+    users: &[Text],
+    clients: &[Text],
+    groups: &[Text],
+) -> Result<Prepared, NoMemory>
+    ensures { IfOk result (λ p. Finds (Ok p) (does_by (shows (spec.group_doc context.entry.org.now name users.now clients.now groups.now)) (Move.PutGroup name (members_of users.now clients.now groups.now) ∷ []) 0).answer) }
+{
     let tree = group_tree(alloc, context.org, &name, users, clients, groups)?;
-    let reply = shown(alloc, &tree)?;
+    let reply = reply_with(alloc, tree)?;
     let members = members(alloc, context.state.hasher(), users, clients, groups)?;
     let moves = one_move(alloc, Move::PutGroup(name, members))?;
     Ok(Prepared { reply, moves })
@@ -233,15 +304,22 @@ fn members(
 }
 
 /// A group goes, out of every group and every list.
-pub(crate) fn remove(alloc: Global, context: Context<'_>, name: Text) -> Result<Prepared, NoMemory>
-    ensures { IfOk result (λ p. Finds (Ok p) (spec.group_removed (seen context.entry) name).answer) }
+pub(crate) fn remove(alloc: Global, context: Context<'_>, name: Text) -> Result<Prepared, Stop>
+    ensures { Finds result (spec.group_removed (seen context.entry) name).answer }
 {
     let tree = kept_tree(alloc, context, &name)?;
-    let reply = shown(alloc, &tree)?;
-    let mut moves = Moves::new(alloc);
-    moves.push(Move::TakeList(key_of(alloc, Kind::Group, name.as_str())?))?;
-    moves.push(Move::RemoveGroup(name))?;
+    let reply = reply_with(alloc, tree)?;
+    let moves = removal(alloc, name)?;
     Ok(Prepared { reply, moves })
+}
+
+/// The moves by which a group goes, and its access list with it.
+fn removal(alloc: Global, name: Text) -> Result<Moves, NoMemory>
+    ensures { IfOk result (λ moves. moves ≡ Move.TakeList (key Kind.Group name) ∷ Move.RemoveGroup name ∷ []) }
+{
+    let key = key_of(alloc, Kind::Group, name.as_str())?;
+    let mut moves = Moves::new(alloc);
+    add_both(&mut moves, Move::TakeList(key), Move::RemoveGroup(name)).and(Ok(moves))
 }
 
 /// The tree of a group as the organisation has it.
@@ -274,30 +352,37 @@ fn group_tree(
     ensures { IfOk result (λ tree. doc_of tree ≡ spec.group_doc org.now name.now users.now clients.now groups.now) }
 {
     let mut fields = Fields::with_capacity(alloc, 7)?;
-    put(
-        alloc,
-        &mut fields,
-        "actors",
-        actors_tree(alloc, clients, users)?,
-    )?;
-    put(alloc, &mut fields, "clients", texts_tree(alloc, clients)?)?;
-    put(
-        alloc,
-        &mut fields,
-        "groupname",
-        Tree::Words(name.copy(alloc)?),
-    )?;
-    put(alloc, &mut fields, "groups", texts_tree(alloc, groups)?)?;
-    put(alloc, &mut fields, "name", Tree::Words(name.copy(alloc)?))?;
-    put(alloc, &mut fields, "orgname", Tree::Words(org.copy(alloc)?))?;
-    put(alloc, &mut fields, "users", texts_tree(alloc, users)?)?;
-    Ok(Tree::Dict(fields))
+    put_group_fields(alloc, org, name, users, clients, groups, &mut fields).and(Ok(Tree::Dict(
+        fields,
+    )))
 }
 
-fn put(alloc: Global, fields: &mut Fields, key: &str, tree: Tree) -> Result<(), NoMemory>
-    ensures { OnOk result (fields.new ≡ with_pair key.now (doc_of tree) fields.old) }
+/// Puts what is told of a group.
+fn put_group_fields(
+    alloc: Global,
+    org: &Text,
+    name: &Text,
+    users: &[Text],
+    clients: &[Text],
+    groups: &[Text],
+    fields: &mut Fields,
+) -> Result<(), NoMemory>
+    requires { fields.old ≡ [] }
+    ensures { OnOk result (dict (pairs_of fields.new) ≡ spec.group_doc org.now name.now users.now clients.now groups.now) }
 {
-    fields.put(Text::from_str(alloc, key)?, tree)
+    put(alloc, fields, "actors", actors_tree(alloc, clients, users)?)?;
+    put(alloc, fields, "clients", texts_tree(alloc, clients)?)?;
+    put_text(alloc, fields, "groupname", name)?;
+    put(alloc, fields, "groups", texts_tree(alloc, groups)?)?;
+    put_text(alloc, fields, "name", name)?;
+    put_text(alloc, fields, "orgname", org)?;
+    put(alloc, fields, "users", texts_tree(alloc, users)?)
+}
+
+fn put_text(alloc: Global, fields: &mut Fields, key: &str, text: &Text) -> Result<(), NoMemory>
+    ensures { OnOk result (fields.new ≡ with_pair key.now (words text.now) fields.old) }
+{
+    put(alloc, fields, key, Tree::Words(text.copy(alloc)?))
 }
 
 /// Clients and users together, in the order of their bytes.

@@ -7,6 +7,8 @@ mod groups;
 mod laws;
 mod lists;
 mod operations;
+mod prepared;
+mod trees;
 mod users;
 
 pub use access::Access;

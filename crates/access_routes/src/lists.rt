@@ -1,6 +1,6 @@
 //! The routes of access lists.
 
-ghost use Rattle.std.specs.Prelude.{◌≡◌, Ok, Some, IfOk};
+ghost use Rattle.std.specs.Prelude.{◌≡◌, Ok, Some, IfOk, option_copied};
 ghost use Rattle.access_lists.specs.Strangers.{first_stranger};
 ghost use Rattle.doc_tree.specs.Name.{is_name};
 ghost use Rattle.doc_tree.specs.Tree.{doc_of};
@@ -12,12 +12,13 @@ ghost use Rattle.access_routes.specs.AccessLists as spec;
 ghost use Rattle.access_routes.specs.AccessRules as rules;
 
 use crate::operations::AccessOperation;
+use crate::prepared::{or_stop, reply_with, told, with_moves};
 use access_lists::{Acl, AclFault, Entry, Perm, Stranger, acl_tree, read_acl};
 use doc_tree::{Fields, Kind, NoMemory, Text, Tree, is_name};
 use object_store::Key;
 use org_core::{
-    Body, Move, Moves, OrgState, Prepared, Refusal, Stop, absent, document_in, key_of, one_move,
-    shown,
+    Body, Context, Move, Moves, OrgState, Prepared, Refusal, Stop, absent, document_in, key_of,
+    one_move,
 };
 use route_table::Verb;
 use std::alloc::Global;
@@ -84,8 +85,8 @@ fn put_entry(
     }
     match (kind, permission) {
         (Some(kind), Some(permission)) => {
-            let entry = entry_in(alloc, permission, body)?;
             let key = key_of(alloc, kind, name.as_str())?;
+            let entry = entry_in(alloc, permission, body)?;
             Ok(AccessOperation::ReplaceEntry(key, permission, entry))
         }
         _ => Err(Stop::Refused(absent(body))),
@@ -174,32 +175,35 @@ pub(crate) fn stranger(
 }
 
 /// The whole list is shown.
-pub(crate) fn show(alloc: Global, key: &Key, state: &OrgState) -> Result<Prepared, NoMemory>
-    ensures { IfOk result (λ p. Finds (Ok p) (spec.list_shown key.now (state_in state.now)).answer) }
+pub(crate) fn show(alloc: Global, context: Context<'_>, key: Key) -> Result<Prepared, Stop>
+    ensures { Finds result (spec.list_shown key (state_in context.entry.state.now)).answer }
 {
-    let tree = match state.acl(key) {
-        Some(list) => acl_tree(alloc, list)?,
-        None => Tree::Null,
-    };
-    Ok(Prepared {
-        reply: shown(alloc, &tree)?,
-        moves: Moves::new(alloc),
-    })
+    let tree = list_tree(alloc, context.state.acl(&key))?;
+    or_stop(told(alloc, tree))
+}
+
+fn list_tree(alloc: Global, list: Option<&Acl>) -> Result<Tree, NoMemory>
+    ensures { IfOk result (λ tree. doc_of tree ≡ spec.list_doc (option_copied list.entry)) }
+{
+    match list {
+        Some(list) => acl_tree(alloc, list),
+        None => Ok(Tree::Null),
+    }
 }
 
 /// One entry is replaced, and the others stay.
 pub(crate) fn replace(
     alloc: Global,
+    context: Context<'_>,
     key: Key,
     permission: Perm,
     entry: Entry,
-    state: &OrgState,
-) -> Result<Prepared, NoMemory>
-    ensures { IfOk result (λ p. Finds (Ok p) (spec.entry_replaced key permission entry (state_in state.now)).answer) }
+) -> Result<Prepared, Stop>
+    ensures { Finds result (spec.entry_replaced key permission entry (state_in context.entry.state.now)).answer }
 {
-    let reply = shown(alloc, &Tree::Dict(Fields::new(alloc)))?;
-    let moves = entry_moves(alloc, key, permission, entry, state)?;
-    Ok(Prepared { reply, moves })
+    let moves = entry_moves(alloc, key, permission, entry, context.state)?;
+    let reply = reply_with(alloc, Tree::Dict(Fields::new(alloc)));
+    or_stop(with_moves(reply, moves))
 }
 
 fn entry_moves(
@@ -216,7 +220,10 @@ fn entry_moves(
             let list = with_entry(alloc, list, permission, entry)?;
             one_move(alloc, Move::PutList(key, list))
         }
-        None => Ok(Moves::new(alloc)),
+        None => {
+            drop(entry);
+            Ok(Moves::new(alloc))
+        }
     }
 }
 
@@ -224,13 +231,27 @@ fn entry_moves(
 fn with_entry(alloc: Global, list: &Acl, permission: Perm, entry: Entry) -> Result<Acl, NoMemory>
     ensures { IfOk result (λ changed. changed ≡ spec.with_entry permission entry list.now) }
 {
-    let mut changed = list.copy(alloc)?;
-    match permission {
-        Perm::Create => changed.create = entry,
-        Perm::Read => changed.read = entry,
-        Perm::Update => changed.update = entry,
-        Perm::Delete => changed.delete = entry,
-        Perm::Grant => changed.grant = entry,
+    match list.copy(alloc) {
+        Ok(mut changed) => {
+            change(&mut changed, permission, entry);
+            Ok(changed)
+        }
+        Err(fault) => {
+            drop(entry);
+            Err(fault)
+        }
     }
-    Ok(changed)
+}
+
+/// Gives a list another entry for one permission.
+fn change(list: &mut Acl, permission: Perm, entry: Entry)
+    ensures { list.new ≡ spec.with_entry permission entry list.old }
+{
+    match permission {
+        Perm::Create => list.create = entry,
+        Perm::Read => list.read = entry,
+        Perm::Update => list.update = entry,
+        Perm::Delete => list.delete = entry,
+        Perm::Grant => list.grant = entry,
+    }
 }

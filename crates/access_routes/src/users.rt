@@ -1,6 +1,6 @@
 //! The routes of users.
 
-ghost use Rattle.std.specs.Prelude.{◌≡◌, Ok, IfOk, option_and_then, option_copied, option_map};
+ghost use Rattle.std.specs.Prelude.{◌≡◌, ◌++◌, Ok, IfOk, codes, option_and_then, option_copied, option_map};
 ghost use Rattle.doc_tree.specs.Tree.{doc_of};
 ghost use Rattle.doc_tree.specs.Doc.{words};
 ghost use Rattle.object_forms.specs.Forms.{name_from};
@@ -14,11 +14,13 @@ ghost use Rattle.access_routes.specs.AccessRules as rules;
 ghost use Rattle.access_routes.specs.Users as spec;
 
 use crate::operations::AccessOperation;
+use crate::prepared::{or_stop, reply_with, told};
+use crate::trees::put;
 use access_lists::MemberKind;
 use doc_tree::{Fields, NoMemory, Text, Tree, Trees, is_name};
 use org_core::{
-    Body, Comer, Context, Move, Moves, OrgState, Prepared, Refusal, Stop, create_by, document_in,
-    joined, one_move, org_uri, shown,
+    Body, Comer, Context, Move, OrgState, Prepared, Refusal, Stop, create_by, document_in, joined,
+    one_move, org_uri,
 };
 use route_table::Verb;
 use std::alloc::Global;
@@ -96,15 +98,12 @@ pub(crate) fn lacks_user(name: &Text, state: &OrgState) -> bool
 }
 
 /// Each user, in the order of their names.
-pub(crate) fn list(alloc: Global, context: Context<'_>) -> Result<Prepared, NoMemory>
-    ensures { IfOk result (λ p. Finds (Ok p) (spec.users_listed (seen context.entry)).answer) }
+pub(crate) fn list(alloc: Global, context: Context<'_>) -> Result<Prepared, Stop>
+    ensures { Finds result (spec.users_listed (seen context.entry)).answer }
 {
     let names = context.state.groups().names(alloc, MemberKind::User)?;
     let tree = users_tree(alloc, names.as_slice())?;
-    Ok(Prepared {
-        reply: shown(alloc, &tree)?,
-        moves: Moves::new(alloc),
-    })
+    or_stop(told(alloc, tree))
 }
 
 fn users_tree(alloc: Global, names: &[Text]) -> Result<Tree, NoMemory>
@@ -134,38 +133,46 @@ fn user_tree(alloc: Global, name: &Text) -> Result<Tree, NoMemory>
 fn dict_of(alloc: Global, key: &str, tree: Tree) -> Result<Tree, NoMemory>
     ensures { IfOk result (λ dict. doc_of dict ≡ one_key key.now (doc_of tree)) }
 {
-    let mut fields = Fields::with_capacity(alloc, 1)?;
-    fields.put(Text::from_str(alloc, key)?, tree)?;
-    Ok(Tree::Dict(fields))
+    let mut fields = Fields::new(alloc);
+    put(alloc, &mut fields, key, tree).and(Ok(Tree::Dict(fields)))
 }
 
 /// A user comes and joins the group `users`.
-pub(crate) fn create(alloc: Global, context: Context<'_>, name: &Text) -> Result<Prepared, NoMemory>
-    ensures { IfOk result (λ p. Finds (Ok p) (spec.user_created (seen context.entry) name.now).answer) }
+pub(crate) fn create(alloc: Global, context: Context<'_>, name: Text) -> Result<Prepared, Stop>
+    ensures { Finds result (spec.user_created (seen context.entry) name).answer }
 {
-    let front = users_front(alloc, context.org)?;
-    let path = joined(alloc, front.as_str(), name.as_str())?;
-    let comer = Comer::of(alloc, name.as_str(), "users")?;
-    create_by(alloc, path, one_move(alloc, Move::AddUser(comer))?)
+    let path = user_path(alloc, context.org, &name)?;
+    let moves = one_move(alloc, user_comes(alloc, &name)?)?;
+    or_stop(create_by(alloc, path, moves))
+}
+
+fn user_path(alloc: Global, org: &Text, name: &Text) -> Result<Text, NoMemory>
+    ensures { IfOk result (λ path. path ≡ spec.users_front org.now ++ name.now) }
+{
+    joined(alloc, users_front(alloc, org)?.as_str(), name.as_str())
+}
+
+/// The move by which a user comes.
+fn user_comes(alloc: Global, name: &Text) -> Result<Move, NoMemory>
+    ensures { IfOk result (λ one. one ≡ Move.AddUser (record { name = name.now; group = codes "users" })) }
+{
+    Ok(Move::AddUser(Comer::of(alloc, name.as_str(), "users")?))
 }
 
 /// A user is shown.
-pub(crate) fn show(alloc: Global, name: &Text) -> Result<Prepared, NoMemory>
-    ensures { IfOk result (λ p. Finds (Ok p) (tells (shows (spec.user_doc name.now))).answer) }
+pub(crate) fn show(alloc: Global, name: Text) -> Result<Prepared, Stop>
+    ensures { Finds result (tells (shows (spec.user_doc name))).answer }
 {
-    let tree = user_tree(alloc, name)?;
-    Ok(Prepared {
-        reply: shown(alloc, &tree)?,
-        moves: Moves::new(alloc),
-    })
+    let tree = user_tree(alloc, &name)?;
+    or_stop(told(alloc, tree))
 }
 
 /// A user goes, out of every group and every list.
-pub(crate) fn remove(alloc: Global, name: Text) -> Result<Prepared, NoMemory>
-    ensures { IfOk result (λ p. Finds (Ok p) (spec.user_removed name).answer) }
+pub(crate) fn remove(alloc: Global, name: Text) -> Result<Prepared, Stop>
+    ensures { Finds result (spec.user_removed name).answer }
 {
     let tree = user_tree(alloc, &name)?;
-    let reply = shown(alloc, &tree)?;
+    let reply = reply_with(alloc, tree)?;
     let moves = one_move(alloc, Move::RemoveUser(name))?;
     Ok(Prepared { reply, moves })
 }
