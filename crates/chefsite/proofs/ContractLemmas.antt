@@ -24,13 +24,18 @@ answered_so status input output disk says cause rest complete untouched =
     λ other same. subst (λ s. Says s input.old input.new output.old output.new) same says in
     let cause_at : (other : Status) → status ≡ other → HasStatusCause other input.faults_before input.faults_after output.faults_before output.faults_after =
     λ other same. subst (λ s. HasStatusCause s input.faults_before input.faults_after output.faults_before output.faults_after) same cause in
+    let untouched_at : (same : status ≡ NoMemory) → IsUntouched input × IsUntouched output =
+    λ same. (
+      record { told = (says_at NoMemory same).0; count = (cause_at NoMemory same).0 },
+      record { told = (says_at NoMemory same).1; count = (cause_at NoMemory same).1 },
+    ) in
     record {
       done = says_at Done;
       read_fault = says_at ReadFault;
       read_cause = cause_at ReadFault;
       write_fault = says_at WriteFault;
       write_cause = cause_at WriteFault;
-      nothing = says_at NoMemory;
+      nothing = untouched_at;
       not_a_message = λ place. says_at (NotAMessage place);
       rest = rest;
       complete = complete;
@@ -63,11 +68,22 @@ ends_without_fault : (status : Status) (read_before read_now written_before writ
     → ¬ (Rose read_before read_now) → ¬ (Rose written_before written_now) → (status ≡ Done) ⊎ (status ≡ BadFile) ⊎ (status ≡ NoMemory)
 ends_without_fault Done rb rn wb wn cause no_read no_write = inl refl
 ends_without_fault Usage rb rn wb wn cause no_read no_write = absurd cause
-ends_without_fault ReadFault rb rn wb wn cause no_read no_write = absurd (no_read cause)
-ends_without_fault WriteFault rb rn wb wn cause no_read no_write = absurd (no_write cause)
+ends_without_fault ReadFault rb rn wb wn cause no_read no_write = absurd (no_read cause.0)
+ends_without_fault WriteFault rb rn wb wn cause no_read no_write = absurd (no_write cause.1)
 ends_without_fault NoMemory rb rn wb wn cause no_read no_write = inr (inr refl)
 ends_without_fault (NotAMessage place) rb rn wb wn cause no_read no_write = absurd cause
 ends_without_fault BadFile rb rn wb wn cause no_read no_write = inr (inl refl)
+
+-- any status but that of a read fault leaves the disk's count
+leaves_count : (status : Status) (read_before read_now written_before written_now : ℕ)
+    → HasFileCause status read_before read_now written_before written_now → status ≢ ReadFault → read_now ≡ read_before
+leaves_count Done rb rn wb wn cause other = cause
+leaves_count Usage rb rn wb wn cause other = absurd cause
+leaves_count ReadFault rb rn wb wn cause other = absurd (other refl)
+leaves_count WriteFault rb rn wb wn cause other = cause.0
+leaves_count NoMemory rb rn wb wn cause other = cause.0
+leaves_count (NotAMessage place) rb rn wb wn cause other = absurd cause
+leaves_count BadFile rb rn wb wn cause other = cause.0
 
 -- a run of `explain` that did what its status says
 explained_so : (status : Status) (file : List ℕ) (input output : Course (List ℕ)) (disk : Course Files)
@@ -82,12 +98,17 @@ explained_so status file input output disk says cause untouched kept =
     λ other same. subst (λ s. HasFileCause s disk.faults_before disk.faults_after output.faults_before output.faults_after) same cause in
     record {
       done = says_at Done;
-      read_cause = cause_at ReadFault;
+      read_cause = λ same. (cause_at ReadFault same).0;
       write_fault = says_at WriteFault;
-      write_cause = cause_at WriteFault;
+      write_cause = λ same. (cause_at WriteFault same).1;
       bad_file = λ bad. (says_at BadFile bad).0;
       no_sources = lacks_sources status disk.old file output.old output.new says;
-      nothing = λ ended. elim ended [ inl read ↦ says_at ReadFault read | inr (inl memory) ↦ says_at NoMemory memory | inr (inr bad) ↦ (says_at BadFile bad).1 ];
+      unfailed = leaves_count status disk.faults_before disk.faults_after output.faults_before output.faults_after cause;
+      nothing = λ ended. elim ended [
+        | inl read ↦ record { told = says_at ReadFault read; count = (cause_at ReadFault read).1 }
+        | inr (inl memory) ↦ record { told = says_at NoMemory memory; count = (cause_at NoMemory memory).1 }
+        | inr (inr bad) ↦ record { told = (says_at BadFile bad).1; count = (cause_at BadFile bad).1 }
+      ];
       complete = ends_without_fault status disk.faults_before disk.faults_after output.faults_before output.faults_after cause;
       no_message = λ place. says_at (NotAMessage place);
       no_input = untouched;
@@ -123,11 +144,13 @@ demonstrated_so : (status : Status) (size : ℕ) (input output : Course (List �
 demonstrated_so status size input output disk says cause no_input no_file =
     let says_at : (other : Status) → status ≡ other → SaysOfDemo other size output.old output.new =
     λ other same. subst (λ s. SaysOfDemo s size output.old output.new) same says in
+    let cause_at : (other : Status) → status ≡ other → HasDemoCause other output.faults_before output.faults_after =
+    λ other same. subst (λ s. HasDemoCause s output.faults_before output.faults_after) same cause in
     record {
       done = says_at Done;
       write_fault = says_at WriteFault;
-      write_cause = λ same. subst (λ s. HasDemoCause s output.faults_before output.faults_after) same cause;
-      nothing = says_at NoMemory;
+      write_cause = cause_at WriteFault;
+      nothing = λ same. record { told = says_at NoMemory same; count = cause_at NoMemory same };
       statuses = ends_of_demo status output.faults_before output.faults_after cause;
       complete = ends_without_write_fault status output.faults_before output.faults_after cause;
       no_input = no_input;
@@ -163,9 +186,14 @@ performed_so status given command input output disk is not_usage answered explai
 
 -- `answer` was performed so
 pub performed_answer : (status : Status) (given : List (List ℕ)) (input output : Course (List ℕ)) (disk : Course Files)
-    → command_of given ≡ Some answer → status ≢ Usage → Answered status input output disk → Performed status given input output disk
-performed_answer status given input output disk is not_usage answered =
-    performed_so status given answer input output disk is not_usage (λ same. answered) (λ file same. absurd (cc same)) (λ size same. absurd (cc same))
+    → command_of given ≡ Some answer
+    → Says status input.old input.new output.old output.new
+    → Answered status input output disk
+    → Performed status given input output disk
+performed_answer status given input output disk is says answered =
+    performed_so status given answer input output disk is
+    (λ usage. subst (λ s. Says s input.old input.new output.old output.new) usage says)
+    (λ same. answered) (λ file same. absurd (cc same)) (λ size same. absurd (cc same))
 
 -- `explain` was performed so, of a file of this name
 pub performed_explain : (status : Status) (given : List (List ℕ)) (named file : List ℕ) (input output : Course (List ℕ)) (disk : Course Files)
@@ -223,11 +251,11 @@ wanted_memory given input output disk no_input no_output no_disk = record {
   no_command = λ no_command. inr refl;
   idle = λ no_command. (no_input, no_output, no_disk);
   answered = λ is.
-      answered_so NoMemory input output disk (no_input.told, no_output.told) tt
+      answered_so NoMemory input output disk (no_input.told, no_output.told) (no_input.count, no_output.count)
       (λ bytes messages rest left split. ((λ done. absurd (cc done)), (λ place cut. absurd (cc cut))))
       (λ bytes messages left split no_read no_write. inr refl) no_disk;
-  explained = λ file is. explained_so NoMemory file input output disk no_output.told tt no_input no_disk.told;
-  demonstrated = λ size is. demonstrated_so NoMemory size input output disk no_output.told tt no_input no_disk;
+  explained = λ file is. explained_so NoMemory file input output disk no_output.told (no_disk.count, no_output.count) no_input no_disk.told;
+  demonstrated = λ size is. demonstrated_so NoMemory size input output disk no_output.told no_output.count no_input no_disk;
 }
 
 -- what was noted with a file is noted with one of the same name

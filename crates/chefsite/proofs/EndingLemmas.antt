@@ -187,13 +187,13 @@ tells_rest status left rest held now says bytes messages part known split = (
 
 -- whole messages alone, and no count that rose, leave two statuses
 pub is_complete : (ended : Status) (left rest held now : Option (List ℕ)) (read_before read_now written_before written_now : ℕ)
-    → ended ≢ status.Usage → Says ended left rest held now → HasStatusCause ended read_before read_now written_before written_now
+    → Says ended left rest held now → HasStatusCause ended read_before read_now written_before written_now
     → IsComplete ended left read_before read_now written_before written_now
-is_complete status.Done left rest held now rb rn wb wn command says cause bytes messages known split no_read no_write = inl refl
-is_complete status.Usage left rest held now rb rn wb wn command says cause bytes messages known split no_read no_write = absurd (command refl)
-is_complete status.ReadFault left rest held now rb rn wb wn command says cause bytes messages known split no_read no_write = absurd (no_read cause)
-is_complete status.WriteFault left rest held now rb rn wb wn command says cause bytes messages known split no_read no_write = absurd (no_write cause)
-is_complete status.NoMemory left rest held now rb rn wb wn command says cause bytes messages known split no_read no_write = inr refl
-is_complete (status.NotAMessage place) left rest held now rb rn wb wn command says cause bytes messages known split no_read no_write =
+is_complete status.Done left rest held now rb rn wb wn says cause bytes messages known split no_read no_write = inl refl
+is_complete status.Usage left rest held now rb rn wb wn says cause bytes messages known split no_read no_write = absurd says
+is_complete status.ReadFault left rest held now rb rn wb wn says cause bytes messages known split no_read no_write = absurd (no_read cause)
+is_complete status.WriteFault left rest held now rb rn wb wn says cause bytes messages known split no_read no_write = absurd (no_write cause)
+is_complete status.NoMemory left rest held now rb rn wb wn says cause bytes messages known split no_read no_write = inr refl
+is_complete (status.NotAMessage place) left rest held now rb rn wb wn says cause bytes messages known split no_read no_write =
     absurd (((tells_rest (status.NotAMessage place) left rest held now says bytes messages [] known split).1 place refl).0 refl)
-is_complete status.BadFile left rest held now rb rn wb wn command says cause bytes messages known split no_read no_write = absurd says
+is_complete status.BadFile left rest held now rb rn wb wn says cause bytes messages known split no_read no_write = absurd says

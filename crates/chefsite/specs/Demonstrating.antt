@@ -49,13 +49,13 @@ SaysOfDemo NoMemory size held now = now ≡ held
 SaysOfDemo (NotAMessage place) size held now = ⊥
 SaysOfDemo BadFile size held now = ⊥
 
--- a fault comes only where the output's count rose
+-- a fault comes only where the output's count rose, and want of memory only where it stayed
 abbrev pub HasDemoCause : Status → ℕ → ℕ → Type 0
 HasDemoCause Done before now = Unit {0}
 HasDemoCause Usage before now = ⊥
 HasDemoCause ReadFault before now = ⊥
 HasDemoCause WriteFault before now = Rose before now
-HasDemoCause NoMemory before now = Unit {0}
+HasDemoCause NoMemory before now = now ≡ before
 HasDemoCause (NotAMessage place) before now = ⊥
 HasDemoCause BadFile before now = ⊥
 

@@ -10,23 +10,23 @@ use Rattle.chefsite.specs.declared.answering.End.TheVariants.{Closed}
 use Rattle.chefsite.specs.declared.answering.End.TheVariants as end
 use Rattle.chefsite.specs.Isolation.{IsAnswered, IsAnsweredToRest, IsAnsweredUpTo, IsCutShort}
 
--- what a status says, no file being named: `left` and `rest` are what the input had before and has after, `held` and `now` what the output had and has
+-- what a status says: `left` and `rest` are what the input had before and has after, `held` and `now` what the output had and has
 abbrev pub Says : Status → Option (List ℕ) → Option (List ℕ) → Option (List ℕ) → Option (List ℕ) → Type 0
 Says Done left rest held now = IsAnswered left rest held now
-Says Usage left rest held now = (rest ≡ left) × (now ≡ held)
+Says Usage left rest held now = ⊥
 Says ReadFault left rest held now = IsAnsweredUpTo left rest held now
 Says WriteFault left rest held now = IsCutShort left held now
 Says NoMemory left rest held now = (rest ≡ left) × (now ≡ held)
 Says (NotAMessage place) left rest held now = IsAnsweredToRest place left held now
 Says BadFile left rest held now = ⊥
 
--- a fault comes only where its count rose
+-- a fault comes only where its count rose, and want of memory only where neither count moved
 abbrev pub HasStatusCause : Status → ℕ → ℕ → ℕ → ℕ → Type 0
 HasStatusCause Done read_before read_now written_before written_now = Unit {0}
-HasStatusCause Usage read_before read_now written_before written_now = Unit {0}
+HasStatusCause Usage read_before read_now written_before written_now = ⊥
 HasStatusCause ReadFault read_before read_now written_before written_now = Rose read_before read_now
 HasStatusCause WriteFault read_before read_now written_before written_now = Rose written_before written_now
-HasStatusCause NoMemory read_before read_now written_before written_now = Unit {0}
+HasStatusCause NoMemory read_before read_now written_before written_now = (read_now ≡ read_before) × (written_now ≡ written_before)
 HasStatusCause (NotAMessage place) read_before read_now written_before written_now = Unit {0}
 HasStatusCause BadFile read_before read_now written_before written_now = ⊥
 

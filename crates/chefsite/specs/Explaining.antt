@@ -31,12 +31,13 @@ SaysOfFile NoMemory files file held now = now ≡ held
 SaysOfFile (NotAMessage place) files file held now = ⊥
 SaysOfFile BadFile files file held now = IsBadFile files file × (now ≡ held)
 
--- a fault comes only where its count rose: the disk's in reading, and the output's in writing
+-- a fault comes only where its count rose: the disk's in reading, and the output's in writing. At any status but a read
+-- fault the disk's count stays, and where nothing was to be written the output's stays
 abbrev pub HasFileCause : Status → ℕ → ℕ → ℕ → ℕ → Type 0
-HasFileCause Done read_before read_now written_before written_now = Unit {0}
+HasFileCause Done read_before read_now written_before written_now = read_now ≡ read_before
 HasFileCause Usage read_before read_now written_before written_now = ⊥
-HasFileCause ReadFault read_before read_now written_before written_now = Rose read_before read_now
-HasFileCause WriteFault read_before read_now written_before written_now = Rose written_before written_now
-HasFileCause NoMemory read_before read_now written_before written_now = Unit {0}
+HasFileCause ReadFault read_before read_now written_before written_now = Rose read_before read_now × (written_now ≡ written_before)
+HasFileCause WriteFault read_before read_now written_before written_now = (read_now ≡ read_before) × Rose written_before written_now
+HasFileCause NoMemory read_before read_now written_before written_now = (read_now ≡ read_before) × (written_now ≡ written_before)
 HasFileCause (NotAMessage place) read_before read_now written_before written_now = ⊥
-HasFileCause BadFile read_before read_now written_before written_now = Unit {0}
+HasFileCause BadFile read_before read_now written_before written_now = (read_now ≡ read_before) × (written_now ≡ written_before)

@@ -90,8 +90,8 @@ pub record Answered (status : Status) (input output : Course (List ℕ)) (disk :
   pub write_fault : status ≡ WriteFault → IsCutShort input.old output.old output.new
   -- and only where a write failed
   pub write_cause : status ≡ WriteFault → Rose output.faults_before output.faults_after
-  -- 7: nothing was read or written
-  pub nothing : status ≡ NoMemory → (input.new ≡ input.old) × (output.new ≡ output.old)
+  -- 7: nothing was read or written, and no fault was met
+  pub nothing : status ≡ NoMemory → IsUntouched input × IsUntouched output
   -- 8: the whole messages were answered so, and what follows them, at the place that is told, isn't nothing and is no message
   pub not_a_message : (place : ℕ) → status ≡ NotAMessage place → IsAnsweredToRest place input.old output.old output.new
   -- 0 comes only where nothing follows the whole messages, and 8 only where something does
@@ -116,8 +116,10 @@ pub record Explained (status : Status) (file : List ℕ) (input output : Course 
   pub bad_file : status ≡ BadFile → IsBadFile disk.old file
   -- and where that is so, on a disk that tells its files, no other status comes but for a read that failed and want of memory
   pub no_sources : (files : Files) → disk.old ≡ Some files → HasNoSources (files file) → (status ≡ BadFile) ⊎ (status ≡ ReadFault) ⊎ (status ≡ NoMemory)
-  -- 3, 7 and 13: nothing was written
-  pub nothing : (status ≡ ReadFault) ⊎ (status ≡ NoMemory) ⊎ (status ≡ BadFile) → output.new ≡ output.old
+  -- any status but 3 comes only where the disk didn't fail: no fault is told as want of memory, or as a bad file
+  pub unfailed : status ≢ ReadFault → disk.faults_after ≡ disk.faults_before
+  -- 3, 7 and 13: nothing was written, and no write failed
+  pub nothing : (status ≡ ReadFault) ⊎ (status ≡ NoMemory) ⊎ (status ≡ BadFile) → IsUntouched output
   -- no count that rose leaves 0, 13 and 7
   pub complete : ¬ (Rose disk.faults_before disk.faults_after) → ¬ (Rose output.faults_before output.faults_after)
       → (status ≡ Done) ⊎ (status ≡ BadFile) ⊎ (status ≡ NoMemory)
@@ -136,8 +138,8 @@ pub record Demonstrated (status : Status) (size : ℕ) (input output : Course (L
   pub write_fault : status ≡ WriteFault → (text : List ℕ) × IsToldOf size text × GainsPart output.old output.new text
   -- and only where a write failed
   pub write_cause : status ≡ WriteFault → Rose output.faults_before output.faults_after
-  -- 7: nothing was written
-  pub nothing : status ≡ NoMemory → output.new ≡ output.old
+  -- 7: nothing was written, and no write failed
+  pub nothing : status ≡ NoMemory → IsUntouched output
   -- no other status comes
   pub statuses : (status ≡ Done) ⊎ (status ≡ WriteFault) ⊎ (status ≡ NoMemory)
   -- a count that didn't rise leaves 0 and 7

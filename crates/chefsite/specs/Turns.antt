@@ -6,6 +6,7 @@ use Rattle.outside_core.specs.Sink.{GainsPart, PassesOn}
 use Rattle.org_core.specs.declared.replies.Reply.{Reply}
 use Rattle.org_machine.specs.Alone.{Exchange, States, nobody}
 use Rattle.org_machine.specs.Serving.{Serves, Progress}
+use Rattle.http_wire.specs.Held.{Held}
 use Rattle.http_wire.specs.Message.{Message, print_message, BeginsNone, last_place}
 use Rattle.http_wire.specs.Faults.{NoneBeginsIn}
 use Rattle.http_wire.specs.Splits.{Takes, TakesAll, place_after}
@@ -49,6 +50,10 @@ EndsTurn WriteFault place left rest before held gained waited waiting =
     LosesTurn place left before held gained waited × (waiting ≡ [])
 EndsTurn (NotAMessage told) place left rest before held gained waited waiting =
     HasReason (NotAMessage told) place left rest × (gained ≡ held) × (waiting ≡ waited)
+
+-- where the room holds no whole message, so that the next one has to be read, no reply waits to be written
+abbrev pub NothingWaits : Held → List ℕ → Type 0
+NothingWaits room waiting = BeginsNone (last_place - room.place) room.held → waiting ≡ []
 
 -- these messages were taken from the front of a stream, each was answered, and of the replies' texts
 -- the sink gained a front, and the others wait

@@ -1,6 +1,6 @@
 //! The command `answer`: it answers the messages of its input, one after another, to its end.
 
-ghost use Rattle.std.specs.Prelude.{◌≡◌, ◌≢◌, ◌≤◌, ℕ, [], List, IfOk};
+ghost use Rattle.std.specs.Prelude.{◌≡◌, ◌≤◌, ℕ, [], List, IfOk};
 ghost use Rattle.std.specs.declared.option.Option.{Option};
 ghost use Rattle.chefsite.specs.Endings as endings;
 ghost use Rattle.chefsite.specs.Endings.{Says, HasStatusCause, TellsRest, IsComplete};
@@ -29,7 +29,6 @@ pub(crate) fn answer<I: Source, U: Sink, L: Ledger>(
 ) -> Status
     ensures says { Says result (I.left input.old) (I.left input.new) (U.gained output.old) (U.gained output.new) }
     ensures cause { HasStatusCause result (I.faults input.old) (I.faults input.new) (U.faults output.old) (U.faults output.new) }
-    ensures words { result ≢ Status.Usage }
     ensures rest { TellsRest result (I.left input.old) }
     ensures complete { IsComplete result (I.left input.old) (I.faults input.old) (I.faults input.new) (U.faults output.old) (U.faults output.new) }
     ensures read { I.faults input.old ≤ I.faults input.new }
@@ -62,7 +61,6 @@ fn answer_in<I: Source, U: Sink, L: Ledger>(
     requires buffer { buffer.waiting ≡ [] }
     ensures says { Says result (I.left input.old) (I.left input.new) (U.gained output.old) (U.gained output.new) }
     ensures cause { HasStatusCause result (I.faults input.old) (I.faults input.new) (U.faults output.old) (U.faults output.new) }
-    ensures words { result ≢ Status.Usage }
     ensures read { I.faults input.old ≤ I.faults input.new }
     ensures written { U.faults output.old ≤ U.faults output.new }
 {
@@ -88,7 +86,6 @@ fn finish<U: Sink>(buffer: &mut Buffered, output: &mut U, end: End) -> Status
     ensures cause { (read_before read_now written_before : ℕ) → written_before ≤ U.faults output.old
         → HasFaultCause end read_before read_now written_before (U.faults output.old)
         → HasStatusCause result read_before read_now written_before (U.faults output.new) }
-    ensures words { result ≢ Status.Usage }
     ensures written { U.faults output.old ≤ U.faults output.new }
 {
     match buffer.empty(output) {

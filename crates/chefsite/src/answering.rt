@@ -1,18 +1,17 @@
 //! The loop that answers a stream of messages, one after another.
 
-ghost use Rattle.std.specs.Prelude.{◌≡◌, ◌≤◌, ◌-◌, ◌++◌, ℕ, [], List, None, OnOk, OnErr, IfErr, MatchResult, length};
+ghost use Rattle.std.specs.Prelude.{◌≡◌, ◌≤◌, ◌++◌, ℕ, [], List, None, OnOk, OnErr, IfErr, MatchResult, length};
 ghost use Rattle.outside_core.specs.Failed.{HasCause};
 ghost use Rattle.outside_core.specs.Sink.{GainsPart, PassesOn};
 ghost use Rattle.org_core.specs.FullStates.{none};
 ghost use Rattle.org_core.specs.declared.replies.Reply as reply;
 ghost use Rattle.org_core.specs.declared.requests.Request as asked;
 ghost use Rattle.org_machine.specs.Serving.{Serves};
-ghost use Rattle.http_wire.specs.Message.{BeginsNone, last_place};
 ghost use Rattle.http_wire.specs.Requests.{IsRead};
 ghost use Rattle.http_wire.specs.Replies.{reply_text};
 ghost use Rattle.http_wire.specs.Room.{stream};
 ghost use Rattle.site_shards.specs.Shards.{site_states, IsSite};
-ghost use Rattle.chefsite.specs.Turns.{TakesTurn, EndsTurn, EndsStream, HasFaultCause};
+ghost use Rattle.chefsite.specs.Turns.{TakesTurn, EndsTurn, EndsStream, HasFaultCause, NothingWaits};
 
 use doc_tree::Steps;
 use http_wire::{Room, WireFault, buffer_reply, read_message};
@@ -76,7 +75,7 @@ fn empty_before_read<U: Sink>(
     ensures ok { OnOk result (PassesOn (U.gained output.old) (U.gained output.new) buffer.old.waiting buffer.new.waiting) }
     ensures failed { OnErr result (GainsPart (U.gained output.old) (U.gained output.new) buffer.old.waiting) }
     ensures dropped { OnErr result (buffer.new.waiting ≡ []) }
-    ensures emptied { BeginsNone (last_place - room.now.place) room.now.held → buffer.new.waiting ≡ [] }
+    ensures emptied { NothingWaits room.now buffer.new.waiting }
     ensures cause { HasCause (U.faults output.old) (U.faults output.new) result }
 {
     if room.holds_message() {
@@ -85,7 +84,8 @@ fn empty_before_read<U: Sink>(
     buffer.empty(output)
 }
 
-// Takes one message, serves its request and writes the reply.
+// Takes one message, serves its request and writes the reply. Here alone the input is read, so whoever calls this has to
+// see that no reply waits meanwhile.
 fn answer_next<I: Source, U: Sink, L: Ledger>(
     alloc: Global,
     input: &mut I,
@@ -95,7 +95,8 @@ fn answer_next<I: Source, U: Sink, L: Ledger>(
     shards: &mut [Shard],
     steps: &mut Steps<L>,
 ) -> Result<(), End>
-    requires { IsSite shards.old }
+    requires site { IsSite shards.old }
+    requires waits { NothingWaits room.old buffer.old.waiting }
     ensures turn { OnOk result (TakesTurn room.old.place room.new.place (stream room.old (I.left input.old)) (stream room.new (I.left input.new))
         (site_states shards.old) (site_states shards.new) (U.gained output.old) (U.gained output.new) buffer.old.waiting buffer.new.waiting) }
     ensures end { IfErr result (λ end. EndsTurn end room.old.place (stream room.old (I.left input.old)) (I.left input.new)

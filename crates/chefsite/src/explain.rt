@@ -52,6 +52,7 @@ fn lines_of<F: Disk>(alloc: Global, file: &str, files: &mut F) -> Result<Bytes, 
     ensures lines { IfOk result (IsExplainedBy (F.files files.old) file.now) }
     ensures bad_file { result ≡ Err NoLines.BadFile → IsBadFile (F.files files.old) file.now }
     ensures read_fault { result ≡ Err NoLines.ReadFault → Rose (F.faults files.old) (F.faults files.new) }
+    ensures unfailed { result ≢ Err NoLines.ReadFault → F.faults files.new ≡ F.faults files.old }
     ensures kept { F.files files.new ≡ F.files files.old }
 {
     let Ok(name) = Text::from_str(alloc, file) else {

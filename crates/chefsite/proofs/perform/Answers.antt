@@ -10,7 +10,7 @@ demo-requires g c = size_is_small c.requires.0 _ (c.requires.1 ∙ ap (λ x. Som
 
 pub returns-in-Answer : goal.returns-in-Answer
 returns-in-Answer g c = λ given read.
-    performed_answer _ given _ _ _ (read ∙ ap (λ x. Some (told x)) c.in-Answer.is) c.answer.ensures.words
+    performed_answer _ given _ _ _ (read ∙ ap (λ x. Some (told x)) c.in-Answer.is) c.answer.ensures.says
     (answered_so _ _ _ _ c.answer.ensures.says c.answer.ensures.cause c.answer.ensures.rest c.answer.ensures.complete (search rules))
 
 pub returns-in-Explain : goal.returns-in-Explain

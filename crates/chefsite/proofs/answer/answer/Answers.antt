@@ -7,4 +7,4 @@ returns-in-Ok-clause-rest g c = tells_rest _ _ _ _ _ c.answer_in.ensures.says
 
 pub returns-in-Ok-clause-complete : goal.returns-in-Ok-clause-complete
 returns-in-Ok-clause-complete g c =
-    is_complete _ _ _ _ _ _ _ _ _ c.answer_in.ensures.words c.answer_in.ensures.says c.answer_in.ensures.cause
+    is_complete _ _ _ _ _ _ _ _ _ c.answer_in.ensures.says c.answer_in.ensures.cause
