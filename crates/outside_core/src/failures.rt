@@ -1,3 +1,5 @@
+//! Which calls of something in memory fail, and the count of those that did.
+
 ghost use Rattle.std.specs.Prelude.{◌≡◌, ◌≤◌, is_err};
 ghost use Rattle.outside_core.specs.Failed.{HasCause, Rose};
 ghost use Rattle.outside_core.specs.Failures.{planned, is_due, after_call, after_fault};

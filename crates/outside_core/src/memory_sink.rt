@@ -1,3 +1,5 @@
+//! The sink in memory.
+
 ghost use Rattle.std.specs.Prelude.{◌≡◌, ◌+◌, ◌≤◌, ◌<◌, ◌++◌, [], Some, IfOk, OnOk, OnErr, is_err, length};
 ghost use Rattle.outside_core.specs.Failed.{HasCause};
 ghost use Rattle.outside_core.specs.Failures.{planned};

@@ -1,3 +1,5 @@
+//! Sources over bytes in memory.
+
 ghost use Rattle.std.specs.Prelude.{◌≡◌, ◌<◌, ◌≤◌, ◌++◌, [], Some, IfOk, OnErr, is_err, min, length, take, drop};
 ghost use Rattle.std.specs.Io.{ReadsAtMost};
 ghost use Rattle.outside_core.specs.Failed.{HasCause};
