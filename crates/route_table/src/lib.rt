@@ -5,8 +5,6 @@ mod left_out;
 mod paths;
 mod routes;
 mod table;
-#[cfg(test)]
-mod tests;
 mod verbs;
 
 pub use left_out::is_left_out;
