@@ -24,7 +24,7 @@ answered_so status input output disk says cause rest complete untouched =
     λ other same. subst (λ s. Says s input.old input.new output.old output.new) same says in
     let cause_at : (other : Status) → status ≡ other → HasStatusCause other input.faults_before input.faults_after output.faults_before output.faults_after =
     λ other same. subst (λ s. HasStatusCause s input.faults_before input.faults_after output.faults_before output.faults_after) same cause in
-    let untouched_at : (same : status ≡ NoMemory) → IsUntouched input × IsUntouched output =
+    let untouched_at : status ≡ NoMemory → IsUntouched input × IsUntouched output =
     λ same. (
       record { told = (says_at NoMemory same).0; count = (cause_at NoMemory same).0 },
       record { told = (says_at NoMemory same).1; count = (cause_at NoMemory same).1 },
@@ -193,7 +193,9 @@ pub performed_answer : (status : Status) (given : List (List ℕ)) (input output
 performed_answer status given input output disk is says answered =
     performed_so status given answer input output disk is
     (λ usage. subst (λ s. Says s input.old input.new output.old output.new) usage says)
-    (λ same. answered) (λ file same. absurd (cc same)) (λ size same. absurd (cc same))
+    (λ same. answered)
+    (λ file other. absurd (cc other))
+    (λ size other. absurd (cc other))
 
 -- `explain` was performed so, of a file of this name
 pub performed_explain : (status : Status) (given : List (List ℕ)) (named file : List ℕ) (input output : Course (List ℕ)) (disk : Course Files)

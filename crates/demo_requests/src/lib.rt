@@ -7,8 +7,6 @@ mod demo;
 mod draws;
 mod names;
 mod requests;
-#[cfg(test)]
-mod tests;
 mod turns;
 
 pub use counts::Counts;

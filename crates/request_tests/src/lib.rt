@@ -1,6 +1,8 @@
-//! Tests of requests, and of an organisation as a whole.
+//! Tests of routes, of requests and those of a demo, and of an organisation as a whole.
 #![tactic(auto)]
 
+#[cfg(test)]
+mod demo_requests_tests;
 #[cfg(test)]
 mod head_tests;
 #[cfg(test)]
@@ -11,3 +13,5 @@ mod http_wire_tests;
 mod org_core_tests;
 #[cfg(test)]
 mod org_machine_tests;
+#[cfg(test)]
+mod route_table_tests;

@@ -6,8 +6,6 @@ mod methods;
 mod paths;
 mod routes;
 mod table;
-#[cfg(test)]
-mod tests;
 mod verbs;
 
 pub use left_out::is_left_out;

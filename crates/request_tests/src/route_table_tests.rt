@@ -1,6 +1,6 @@
 //! Paths, their methods, and what is left out.
-use crate::{Path, ROUTES, Routes, Row, Verb, has_method, is_left_out};
 use doc_tree::{NoMemory, Text};
+use route_table::{Path, ROUTES, Routes, Row, Verb, has_method, is_left_out};
 use std::alloc::Global;
 use std::test::Fail;
 

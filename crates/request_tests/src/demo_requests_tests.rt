@@ -1,7 +1,6 @@
-//! What no clause says: that the calls succeed, and that the definitions are those of the product. The values
+//! What no clause says of demos: that the calls succeed, and that the definitions are those of the product. The values
 //! expected were computed apart, from the rules.
-use crate::draws::Draws;
-use crate::{Counts, Demo};
+use demo_requests::{Counts, Demo};
 use doc_tree::json_text;
 use org_core::{Body, ObjectsRoute, Parameters, Place, Request, Route, SearchRoute};
 use route_table::Verb;
@@ -34,6 +33,16 @@ DELETE /organizations/o2/nodes/n22
 GET /organizations/o1/nodes/n29
 DELETE /organizations/o1/nodes/n39
 "#;
+
+// The first turn of each size, behind the creations: the request that its first four draws make. Of size 1 these are
+// 1_817_669_548, 2_187_888_307, 2_784_682_393 and 1_644_385_741; of size 2 they are 3_299_435_481, 3_938_983_765,
+// 2_969_520_912 and 1_565_561_008; of size 200 they are 336_346_850, 2_763_533_474, 912_841_999 and 3_138_133_171.
+const TURN_OF_ONE: &str = "DELETE /organizations/o1/nodes/n43";
+
+const TURN_OF_TWO: &str = r#"POST /organizations/o2/nodes {"automatic":{"tag":"t4"},"name":"n12"}"#;
+
+const TURN_OF_MANY: &str =
+    r#"PUT /organizations/o51/nodes/n49 {"automatic":{"tag":"t5"},"name":"n49"}"#;
 
 // The last request of a demo of size 200.
 const LAST_OF_MANY: &str =
@@ -103,18 +112,23 @@ fn next_of(alloc: Global, demo: &mut Demo) -> Result<String, Fail> {
     }
 }
 
-#[test]
-fn a_size_gives_its_draws(rt: HostRuntime) {
-    let table = [
-        (1, [1_817_669_548, 2_187_888_307, 2_784_682_393]),
-        (2, [3_299_435_481, 3_938_983_765, 2_969_520_912]),
-        (200, [336_346_850, 2_763_533_474, 912_841_999]),
-    ];
-    for (size, expected) in table {
-        let mut draws = Draws::from(size);
-        let drawn = [draws.draw(), draws.draw(), draws.draw()];
-        assert_eq!(rt; drawn, expected, "{size}");
+// Passes over the next requests of a demo, so many.
+fn pass_over(alloc: Global, demo: &mut Demo, count: u64) -> Result<(), Fail> {
+    for _ in 0..count {
+        drop(demo.next(alloc)?);
     }
+    Ok(())
+}
+
+#[test]
+fn a_size_gives_its_draws(rt: HostRuntime) -> Result<(), Fail> {
+    for (size, expected) in [(1, TURN_OF_ONE), (2, TURN_OF_TWO), (200, TURN_OF_MANY)] {
+        let mut demo = Demo::of(size);
+        pass_over(rt.alloc(), &mut demo, size)?;
+        let told = next_of(rt.alloc(), &mut demo)?;
+        assert_eq!(rt; told.as_str(), expected);
+    }
+    Ok(())
 }
 
 #[test]
@@ -132,9 +146,7 @@ fn a_demo_begins_with_its_organisations(rt: HostRuntime) -> Result<(), Fail> {
 #[test]
 fn a_demo_ends_behind_a_hundred_turns_for_each(rt: HostRuntime) -> Result<(), Fail> {
     let mut demo = Demo::of(200);
-    for _ in 1..20_200 {
-        drop(demo.next(rt.alloc())?);
-    }
+    pass_over(rt.alloc(), &mut demo, 20_199)?;
     let last = next_of(rt.alloc(), &mut demo)?;
     assert_eq!(rt; last.as_str(), LAST_OF_MANY);
     assert!(rt; demo.next(rt.alloc())?.is_none());
