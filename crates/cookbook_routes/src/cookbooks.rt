@@ -5,7 +5,6 @@ ghost use Rattle.org_core.specs.Contexts.{seen};
 ghost use Rattle.cookbook_routes.specs.CookbookRules as spec;
 
 use crate::operations::CookbookOperation;
-use crate::prepared::or_stop;
 use crate::{
     file_routes, listing_routes, sandbox_routes, solving_routes, universe_routes, version_routes,
 };
@@ -138,19 +137,17 @@ impl Group for Cookbooks {
     ) -> Result<Prepared, Stop> {
         match operation {
             CookbookOperation::BeginSandbox(sums) => sandbox_routes::begin(alloc, context, sums),
-            CookbookOperation::CommitSandbox(id) => or_stop(sandbox_routes::commit(
-                alloc, context, id,
-            )),
-            CookbookOperation::Upload(sum, file) => or_stop(file_routes::upload(alloc, sum, file)),
-            CookbookOperation::ShowFile(sum) => or_stop(file_routes::show(alloc, context, &sum)),
+            CookbookOperation::CommitSandbox(id) => sandbox_routes::commit(alloc, context, id),
+            CookbookOperation::Upload(sum, file) => file_routes::upload(alloc, sum, file),
+            CookbookOperation::ShowFile(sum) => file_routes::show(alloc, context, sum),
             CookbookOperation::ListCookbooks(count) => {
-                or_stop(listing_routes::list_cookbooks(alloc, context, count))
+                listing_routes::list_cookbooks(alloc, context, count)
             }
             CookbookOperation::ListVersions(name) => {
-                or_stop(listing_routes::list_versions(alloc, context, &name))
+                listing_routes::list_versions(alloc, context, name)
             }
             CookbookOperation::ShowVersion(name, wanted) => {
-                version_routes::show(alloc, context, &name, wanted, steps)
+                version_routes::show(alloc, context, name, wanted, steps)
             }
             CookbookOperation::PutVersion(name, version, edition, _) => {
                 version_routes::put(alloc, context, name, version, edition, steps)

@@ -1,6 +1,7 @@
 //! The routes of files.
 
 ghost use Rattle.std.specs.Prelude.{◌≡◌, Ok, IfOk, not};
+ghost use Rattle.std.specs.FinMap as finite;
 ghost use Rattle.sandboxes.specs.Sandboxes.{awaits};
 ghost use Rattle.org_core.specs.Contexts.{seen};
 ghost use Rattle.org_shelves.specs.Files.{is_committed as spec_is_committed};
@@ -10,7 +11,7 @@ ghost use Rattle.cookbook_routes.specs.CookbookRules as rules;
 ghost use Rattle.cookbook_routes.specs.Files as spec;
 
 use crate::operations::CookbookOperation;
-use crate::prepared::{told, with_moves};
+use crate::prepared::{or_stop, told, with_moves};
 use crate::sandbox_routes::is_committed;
 use doc_tree::{Bytes, Fields, NoMemory, Text, Tree};
 use org_core::{Body, Context, FileMove, Move, Moves, Prepared, Refusal, Stop, given, one_move};
@@ -90,30 +91,38 @@ pub(crate) fn digest_refusal(asked: &Checksum, file: &Hashed) -> Option<Refusal>
 }
 
 /// A file is uploaded.
-pub(crate) fn upload(alloc: Global, asked: Checksum, file: Hashed) -> Result<Prepared, NoMemory>
-    ensures { IfOk result (λ p. Finds (Ok p) (spec.file_uploaded asked file).answer) }
+pub(crate) fn upload(alloc: Global, asked: Checksum, file: Hashed) -> Result<Prepared, Stop>
+    ensures { Finds result (spec.file_uploaded asked file).answer }
 {
-    let reply = told(alloc, Tree::Dict(Fields::new(alloc)))?;
-    with_moves(
-        reply,
-        one_move(alloc, Move::OnFiles(FileMove::Upload(asked, file))),
-    )
+    match told(alloc, Tree::Dict(Fields::new(alloc))) {
+        Ok(reply) => {
+            let moves = one_move(alloc, Move::OnFiles(FileMove::Upload(asked, file)));
+            or_stop(with_moves(reply, moves))
+        }
+        Err(fault) => {
+            drop(file);
+            Err(Stop::from(fault))
+        }
+    }
 }
 
 /// A file is shown.
-pub(crate) fn show(
-    alloc: Global,
-    context: Context<'_>,
-    sum: &Checksum,
-) -> Result<Prepared, NoMemory>
-    ensures { IfOk result (λ p. Finds (Ok p) (spec.file_shown (seen context.entry) sum.now).answer) }
+pub(crate) fn show(alloc: Global, context: Context<'_>, sum: Checksum) -> Result<Prepared, Stop>
+    ensures { Finds result (spec.file_shown (seen context.entry) sum).answer }
 {
-    let body = match context.files.file(context.org, sum) {
-        Some((file, _)) => Bytes::from_slice(alloc, file.as_slice())?,
-        None => Bytes::constant(b""),
-    };
+    let body = bytes_of(alloc, context, &sum)?;
     Ok(Prepared {
         reply: given(body),
         moves: Moves::new(alloc),
     })
+}
+
+// The bytes of a file, of which one that isn't there has none.
+fn bytes_of(alloc: Global, context: Context<'_>, sum: &Checksum) -> Result<Bytes, NoMemory>
+    ensures { IfOk result (λ bytes. bytes ≡ spec.bytes_of (finite.get (seen context.entry).files.files sum.now)) }
+{
+    match context.files.file(context.org, sum) {
+        Some((file, _)) => Bytes::from_slice(alloc, file.as_slice()),
+        None => Ok(Bytes::constant(b"")),
+    }
 }

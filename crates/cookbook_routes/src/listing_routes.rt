@@ -88,8 +88,8 @@ pub(crate) fn list_cookbooks(
     alloc: Global,
     context: Context<'_>,
     count: Count,
-) -> Result<Prepared, NoMemory>
-    ensures { IfOk result (λ p. Finds (Ok p) (spec.cookbooks_listed (seen context.entry) count).answer) }
+) -> Result<Prepared, Stop>
+    ensures { Finds result (spec.cookbooks_listed (seen context.entry) count).answer }
 {
     let tree = listing_tree(alloc, context.org, count, context.state.cookbooks())?;
     Ok(Prepared {
@@ -118,11 +118,11 @@ fn listing_tree(
 pub(crate) fn list_versions(
     alloc: Global,
     context: Context<'_>,
-    name: &Text,
-) -> Result<Prepared, NoMemory>
-    ensures { IfOk result (λ p. Finds (Ok p) (spec.cookbook_listed (seen context.entry) name.now).answer) }
+    name: Text,
+) -> Result<Prepared, Stop>
+    ensures { Finds result (spec.cookbook_listed (seen context.entry) name).answer }
 {
-    let tree = versions_tree(alloc, context, name)?;
+    let tree = versions_tree(alloc, context, &name)?;
     Ok(Prepared {
         reply: shown_key(alloc, name.as_str(), tree)?,
         moves: Moves::new(alloc),

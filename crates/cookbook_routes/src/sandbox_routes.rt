@@ -15,16 +15,17 @@ ghost use Rattle.org_core.specs.Contexts.{seen};
 ghost use Rattle.org_shelves.specs.Files.{is_committed as spec_is_committed};
 ghost use Rattle.org_core.specs.Outcomes.{Finds};
 ghost use Rattle.org_core.specs.Refusals.{Tells, refuses};
+ghost use Rattle.org_core.specs.Replies.{with_body};
 ghost use Rattle.cookbook_routes.specs.CookbookRules as rules;
 ghost use Rattle.cookbook_routes.specs.Sandboxes as spec;
 
 use crate::operations::CookbookOperation;
-use crate::prepared::{told, with_moves};
+use crate::prepared::{or_stop, told, with_moves};
 use crate::trees::{put, two};
 use doc_tree::{Field, Fields, NoMemory, Text, Tree, Trees};
 use org_core::{
-    Body, Context, FileMove, Move, Prepared, Refusal, Stop, document_in, joined, made, one_move,
-    org_uri,
+    Body, Context, FileMove, Move, Prepared, Refusal, Reply, Stop, document_in, joined, made,
+    one_move, org_uri,
 };
 use route_table::Verb;
 use sandboxes::{Checksum, Files, SandFault, Sums, read_checksum, sandbox_id};
@@ -219,13 +220,23 @@ fn begin_as(
 ) -> Result<Prepared, NoMemory>
     ensures { IfOk result (λ p. Finds (Ok p) (spec.begun_as (seen context.entry) id sums).answer) }
 {
-    let tree = begun_tree(alloc, context, &id, &sums)?;
+    let reply = begun_reply(alloc, context, &id, &sums)?;
+    with_moves(reply, one_move(alloc, Move::OnFiles(FileMove::Begin(sums))))
+}
+
+// 201 with what is told of a new sandbox.
+fn begun_reply(
+    alloc: Global,
+    context: Context<'_>,
+    id: &Checksum,
+    sums: &Sums,
+) -> Result<Reply, NoMemory>
+    ensures { IfOk result (λ reply. reply ≡ with_body 201 (spec.begun_doc (seen context.entry).org (seen context.entry).files id.now sums.now)) }
+{
+    let tree = begun_tree(alloc, context, id, sums)?;
     let reply = made(alloc, &tree);
     drop(tree);
-    with_moves(
-        reply?,
-        one_move(alloc, Move::OnFiles(FileMove::Begin(sums))),
-    )
+    reply
 }
 
 fn begun_tree(
@@ -301,16 +312,20 @@ pub(crate) fn is_committed(org: &Text, files: &Files, sum: &Checksum) -> bool
 }
 
 /// A sandbox is committed.
-pub(crate) fn commit(
-    alloc: Global,
-    context: Context<'_>,
-    id: Checksum,
-) -> Result<Prepared, NoMemory>
-    ensures { IfOk result (λ p. Finds (Ok p) (spec.sandbox_committed (seen context.entry) id).answer) }
+pub(crate) fn commit(alloc: Global, context: Context<'_>, id: Checksum) -> Result<Prepared, Stop>
+    ensures { Finds result (spec.sandbox_committed (seen context.entry) id).answer }
 {
-    let sums = listed_tree(alloc, context, &id)?;
-    let reply = told(alloc, committed_tree(alloc, &id, sums)?)?;
-    with_moves(reply, one_move(alloc, Move::OnFiles(FileMove::Commit(id))))
+    let reply = committed_reply(alloc, context, &id)?;
+    let moves = one_move(alloc, Move::OnFiles(FileMove::Commit(id)));
+    or_stop(with_moves(reply, moves))
+}
+
+// 200 with what is told of a sandbox that was committed.
+fn committed_reply(alloc: Global, context: Context<'_>, id: &Checksum) -> Result<Reply, NoMemory>
+    ensures { IfOk result (λ reply. reply ≡ with_body 200 (spec.committed_doc id.now (spec.sums_doc (holdings.sums_of (seen context.entry).files id.now)))) }
+{
+    let sums = listed_tree(alloc, context, id)?;
+    told(alloc, committed_tree(alloc, id, sums)?)
 }
 
 // The checksums that a sandbox lists, of which one that isn't there lists none.

@@ -117,12 +117,19 @@ fn putting(
 ) -> Result<CookbookOperation, Stop>
     ensures { Tells result (rules.putting name version (spec.is_forced parameters.now) (spec.manifest_said name version (bodies.document_in body.now))) }
 {
-    let edition = match document_in(body) {
-        Ok(tree) => edition_of(alloc, tree, &name, &version)?,
-        Err(refusal) => return Err(Stop::Refused(refusal)),
-    };
+    let edition = edition_in(alloc, body, &name, &version)?;
     let forced = is_forced(parameters);
     Ok(CookbookOperation::PutVersion(name.into_text(), version, edition, forced))
+}
+
+// What is stored of the manifest of this name and version that a body gives.
+fn edition_in(alloc: Global, body: &Body, name: &Name, version: &Version) -> Result<Edition, Stop>
+    ensures { Tells result (spec.manifest_said name.now version.now (bodies.document_in body.now)) }
+{
+    match document_in(body) {
+        Ok(tree) => edition_of(alloc, tree, name, version),
+        Err(refusal) => Err(Stop::Refused(refusal)),
+    }
 }
 
 // What is stored of the manifest of this name and version that a tree gives.
@@ -277,15 +284,15 @@ pub fn missing_sums(
 pub(crate) fn show<L: Ledger>(
     alloc: Global,
     context: Context<'_>,
-    name: &Text,
+    name: Text,
     wanted: Wanted,
     steps: &mut Steps<L>,
 ) -> Result<Prepared, Stop>
-    ensures done { Finds result (spec.version_shown (seen context.entry) name.now wanted).answer }
-    ensures looked { Looked result (spec.version_shown (seen context.entry) name.now wanted).looks steps.old steps.new }
+    ensures done { Finds result (spec.version_shown (seen context.entry) name wanted).answer }
+    ensures looked { Looked result (spec.version_shown (seen context.entry) name wanted).looks steps.old steps.new }
 {
     steps.tick();
-    let reply = found_told(alloc, context.org, wanted_of(context, name, wanted))?;
+    let reply = found_told(alloc, context.org, wanted_of(context, &name, wanted))?;
     Ok(Prepared {
         reply,
         moves: Moves::new(alloc),
@@ -364,7 +371,10 @@ fn put_stored(
 fn stored_told(alloc: Global, org: &Text, is_new: bool, stored: &Edition) -> Result<Reply, NoMemory>
     ensures { IfOk result (λ reply. reply ≡ with_body (cond is_new 201 200) (spec.shown_found org.now (Some stored.now))) }
 {
-    told_of_put(alloc, is_new, &shown_edition(alloc, org, stored)?)
+    let tree = shown_edition(alloc, org, stored)?;
+    let reply = told_of_put(alloc, is_new, &tree);
+    drop(tree);
+    reply
 }
 
 // What was frozen stays frozen.
