@@ -66,7 +66,7 @@ module _ (plan : Planned) where
       let task : s ≡ t = one_task s t (sym there ∙ is) in
       let same = acts_determined host between mid t other verdict (subst (λ (x : Task). Act host x other between) task also) done in
       let rest = then more
-          (subst (λ (v : Verdict). Chain plan (left_after plan p v todo) mid more r [] m) same.0 (subst (λ (h : Entries). Chain plan (left_after plan p other todo) h more r [] m) same.1 chain)) in
+      (subst (λ (v : Verdict). Chain plan (left_after plan p v todo) mid more r [] m) same.0 (subst (λ (h : Entries). Chain plan (left_after plan p other todo) h more r [] m) same.1 chain)) in
       record {
         acts = ap (λ (xs : List Deed). deed p verdict ∷ xs) rest.acts ∙ sym (acts_are ∙ ap (λ (v : Verdict). deed p v ∷ more) same.0);
         queued = rest.queued;
@@ -183,7 +183,7 @@ placed before later list p behind queued is =
     let front = front_of (firsts before) later in
     elim (split (firsts before) front.0 list p behind (sym front.1 ∙ sym (with_pairs-append [] before later) ∙ sym is)) [
       | inl h ↦ absurd (false≢true (sym (are_once [] (before ++ later) none_once list p behind (sym is))
-      ∙ ap (λ (ps : List Pair). has_pair ps p) h.1 ∙ list_any-append (same_pair p) (firsts before) h.0 ∙ or_left (has_pair (firsts before) p) (has_pair h.0 p) (occurs_first [] before p queued)))
+          ∙ ap (λ (ps : List Pair). has_pair ps p) h.1 ∙ list_any-append (same_pair p) (firsts before) h.0 ∙ or_left (has_pair (firsts before) p) (has_pair h.0 p) (occurs_first [] before p queued)))
       | inr h ↦ h
     ]
 
@@ -213,9 +213,9 @@ module _ (plan : Planned) where
       let pair : q ≡ p = next_same list q p left waiting (sym there ∙ at) in
       let same = same_chain plan chain refl deeds fires between (subst (λ (x : Pair). Chain plan (Now x ∷ []) host deeds fires [] between) pair next) in
       let all = same_goes rest
-          (subst (λ (x : Pair). Goes plan queued (list ++ x ∷ []) (fired ++ now) mid also later ever other) pair
-          (subst (λ (ps : List Pair). Goes plan queued (list ++ q ∷ []) (fired ++ ps) mid also later ever other) (sym same.queued)
-          (subst (λ (h : Entries). Goes plan queued (list ++ q ∷ []) (fired ++ fires) h also later ever other) (sym same.host) behind))) in
+      (subst (λ (x : Pair). Goes plan queued (list ++ x ∷ []) (fired ++ now) mid also later ever other) pair
+      (subst (λ (ps : List Pair). Goes plan queued (list ++ q ∷ []) (fired ++ ps) mid also later ever other) (sym same.queued)
+      (subst (λ (h : Entries). Goes plan queued (list ++ q ∷ []) (fired ++ fires) h also later ever other) (sym same.host) behind))) in
       (ap (λ (xs : List Deed). xs ++ acts) same.acts ∙ ap (λ (xs : List Deed). deeds ++ xs) all.0, all.1)
 
   -- what was performed in a run, and then what it goes on with
@@ -239,8 +239,8 @@ pub runs_determined : RunsAreDetermined
 runs_determined plan host one other acts also run next =
     let owns = same_chain plan run.owns refl next.first next.queued next.between next.owns in
     let queue = same_goes plan (run_goes plan host one acts run)
-        (subst (λ (ps : List Pair). Goes plan ps [] [] run.between (next.list ++ []) (next.then ++ []) (next.fired ++ []) other) (sym owns.queued)
-        (subst (λ (h : Entries). Goes plan next.queued [] [] h (next.list ++ []) (next.then ++ []) (next.fired ++ []) other) (sym owns.host) (run_goes plan host other also next))) in
+    (subst (λ (ps : List Pair). Goes plan ps [] [] run.between (next.list ++ []) (next.then ++ []) (next.fired ++ []) other) (sym owns.queued)
+    (subst (λ (h : Entries). Goes plan next.queued [] [] h (next.list ++ []) (next.then ++ []) (next.fired ++ []) other) (sym owns.host) (run_goes plan host other also next))) in
     let then : run.then ≡ next.then = sym (append-nil run.then) ∙ queue.0 ∙ append-nil next.then in
     let same : acts ≡ also = run.acts_are ∙ ap (λ (xs : List Deed). xs ++ run.then) owns.acts ∙ ap (λ (xs : List Deed). next.first ++ xs) then ∙ sym next.acts_are in
     record { acts = same; report = ap (whole_report plan) same; lines = ap (lines_of plan) same; host = queue.1 }

@@ -7,10 +7,10 @@ use Rattle.converge.specs.Runs.{Run}
 use Rattle.converge.specs.declared.deeds.Deed.{Deed}
 
 -- two runs are one: they have the same acts, the same report whether they are done or not, and leave the same host
-pub record AreOneRun (plan : Planned) (acts also : List Deed) (one other : Entries) : Type 0 where
-  pub acts : acts ≡ also
-  pub report : whole_report plan acts ≡ whole_report plan also
-  pub lines : lines_of plan acts ≡ lines_of plan also
+pub record AreOneRun (plan : Planned) (these those : List Deed) (one other : Entries) : Type 0 where
+  pub acts : these ≡ those
+  pub report : whole_report plan these ≡ whole_report plan those
+  pub lines : lines_of plan these ≡ lines_of plan those
   pub host : one ≡ other
 
 -- two runs of a plan from one host are one

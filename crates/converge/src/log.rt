@@ -30,12 +30,7 @@ impl Log {
     }
 
     /// Notes an act of a plan, with its line.
-    pub(crate) fn note(
-        &mut self,
-        alloc: Global,
-        plan: &RunPlan,
-        act: Deed,
-    ) -> Result<(), NoMemory>
+    pub(crate) fn note(&mut self, alloc: Global, plan: &RunPlan, act: Deed) -> Result<(), NoMemory>
         requires { IsTold plan.now self.old }
         ensures noted { OnOk result (self.new.acts.items ≡ self.old.acts.items ++ act ∷ []) }
         ensures told { OnOk result (IsTold plan.now self.new) }
