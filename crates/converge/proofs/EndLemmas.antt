@@ -3,12 +3,10 @@ use Rattle.std.proofs.Common.{◌≡◌, ℕ, List, [], ◌∷◌, ◌++◌, Som
 use Rattle.std.proofs.lemmas.List.{append-nil}
 use Rattle.host_acts.specs.declared.cause.Cause.{Cause}
 use Rattle.host_tree.specs.Entries.{Entries}
-use Rattle.host_tree.specs.declared.fault.HostFault.TheVariants as fault
 use Rattle.notify_queue.specs.declared.pair.Pair.{Pair}
 use Rattle.resource_core.specs.Plans.{Planned}
 use Rattle.converge.proofs.SettledLemmas.{settled_stays, well_settles}
 use Rattle.converge.specs.Ending.{TellsEnd}
-use Rattle.converge.specs.Going.{RunStopped}
 use Rattle.converge.specs.Outcomes.{ComesTo, IsComplete, IsIdle, Settles, lack_in}
 use Rattle.converge.specs.Reports.{last_line, lines_of}
 use Rattle.converge.specs.Runs.{Begins, before_queued, IsCutOff, Run, failed_or, first_failed}
@@ -16,7 +14,6 @@ use Rattle.converge.specs.Settled.{Agree, AreUpToDate}
 use Rattle.converge.specs.declared.deeds.Deed.{Deed}
 use Rattle.converge.specs.declared.outcome.Outcome.{Outcome}
 use Rattle.converge.specs.declared.outcome.Outcome.TheVariants as of
-use Rattle.converge.specs.declared.report.Report.{Report}
 
 -- a whole run is one as far as it came
 whole_begins : (plan : Planned) (host new : Entries) (acts : List Deed) → Run plan host acts new → IsCutOff plan host acts new
@@ -33,11 +30,6 @@ comes_end plan acts lines (of.Failed resource action cause report) is told host 
 comes_end plan acts lines (of.HostFault report) is told host new run = absurd told
 comes_end plan acts lines (of.LacksCap cap) is told host new run = absurd told
 comes_end plan acts lines of.NoMemory is told host new run = (acts, whole_begins plan host new acts run)
-
--- a run that the host cut off has the lines of its acts
-pub comes_cut : (plan : Planned) (acts : List Deed) (lines : List (List ℕ)) (report : Report) → lines ≡ lines_of plan acts → report.lines ≡ lines → (host new : Entries) → RunStopped plan acts fault.Failed host new
-    → ComesTo plan (of.HostFault report) host new
-comes_cut plan acts lines report is told host new stop = record { acts = stop.gained; cut = stop.cut; told = told ∙ is ∙ ap (lines_of plan) (stop.acts_are refl) }
 
 pub comes_settled : (plan : Planned) (result : Outcome) → Agree plan → (host new : Entries) → ComesTo plan result host new → Settles plan result host new
 comes_settled plan (of.Done report) agree host new is = well_settles plan host new is.acts agree is.run is.well

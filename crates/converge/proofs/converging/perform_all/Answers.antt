@@ -1,5 +1,5 @@
 -- A plan that lacks nothing is run, and its end told.
-use Rattle.converge.proofs.EndLemmas.{comes_cut, comes_end}
+use Rattle.converge.proofs.EndLemmas.{comes_end}
 use Rattle.converge.proofs.ReadyLemmas.{fires_ready, own_ready}
 use Rattle.converge.proofs.TellsLemmas.{tells_map}
 use Rattle.converge.specs.Outcomes.{ComesTo}

@@ -1,5 +1,5 @@
 -- A run from its own actions through its queue, over a host that may tell.
-use Rattle.std.proofs.Common.{◌≡◌, ℕ, suc, ◌+◌, ◌-◌, min, List, [], ◌∷◌, length, reverse, Some, slice_get, refl, sym, ap, subst, ◌∙◌, arith}
+use Rattle.std.proofs.Common.{◌≡◌, ℕ, suc, ◌+◌, min, List, [], ◌∷◌, length, reverse, Some, slice_get, refl, sym, ap, subst, ◌∙◌, arith}
 use Rattle.std.proofs.lemmas.List.{reverse-reverse}
 use Rattle.host_tree.specs.Told.{Tells}
 use Rattle.host_tree.specs.declared.caps.Caps.{Caps}
