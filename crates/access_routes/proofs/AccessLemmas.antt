@@ -63,7 +63,7 @@ access_orderly context (operation.ShowContainer name) = refl
 access_orderly context (operation.ShowList k) = refl
 access_orderly context (operation.ReplaceEntry k permission entry) = entry_orderly k permission entry (list_in context.state k)
 
--- ---- these routes put no cookbook version in
+-- ---- these routes put nothing on a shelf
 
 entry_puts_none : (k : Key) (perm : Perm) (entry : Entry) (found : Option Acl) → shelved_by (entry_moves k perm entry found) ≡ 0
 unfolding takes_shelf_room

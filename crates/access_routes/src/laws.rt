@@ -13,7 +13,7 @@ pub fn access_keeps_conditions()
     ensures { KeepsConditions Someone access_rules }
 {}
 
-/// These routes put no cookbook version in, so what cookbooks name stays.
+/// These routes put nothing on a shelf, so the conditions of files stay.
 pub fn access_never_shelves()
     ensures { NeverShelves access_rules }
 {}

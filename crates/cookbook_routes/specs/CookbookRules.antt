@@ -1,4 +1,4 @@
--- The rules of cookbooks, sandboxes and files. What isn't built is refused before.
+-- The rules of cookbooks, sandboxes and files.
 use Rattle.std.specs.Prelude.{ℕ, Bool, true, false, not, ◌&&◌, List, [], ◌∷◌, Option, Some, None, is_none, is_some, codes, Result, Ok, Err}
 use Rattle.std.specs.FinMap as finite
 use Rattle.access_lists.specs.declared.perm.Perm.TheVariants as permission

@@ -18,8 +18,7 @@ use org_core::{
 use std::alloc::Global;
 use std::sync::ledger::Ledger;
 
-/// The group of the routes of cookbooks, sandboxes and files. Those that aren't built are refused before
-/// anyone asks it.
+/// The group of the routes of cookbooks, sandboxes and files.
 #[derive(Clone, Copy, Debug)]
 pub struct Cookbooks;
 

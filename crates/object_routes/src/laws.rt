@@ -27,7 +27,7 @@ pub fn groups_keep_conditions()
     ensures data_bags { KeepsConditions Someone data_rules }
 {}
 
-/// These groups put no cookbook version in, so what cookbooks name stays.
+/// These groups put nothing on a shelf, so the conditions of files stay.
 pub fn groups_never_shelve()
     ensures organisations { NeverShelves organisation_rules }
     ensures objects { (collection : collections.Collection) → NeverShelves (objects_rules collection) }

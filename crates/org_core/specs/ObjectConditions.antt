@@ -1,4 +1,4 @@
--- The conditions that the objects of every organisation meet, kind by kind. A kind that is built later adds its own.
+-- The conditions that the objects of every organisation meet, kind by kind.
 use Rattle.std.specs.Prelude.{◌≡◌, Bool, true, ℕ, List, Some, Ok, is_some, codes}
 use Rattle.std.specs.FinMap as map
 use Rattle.doc_tree.specs.Doc.{Doc}
@@ -23,7 +23,7 @@ IsNamed kind name object = (is_name name ≡ true) × (object_from kind (Some na
 abbrev pub IsItem : List ℕ → Doc → Type 0
 IsItem name object = (bag id : List ℕ) × (name ≡ item_name bag id) × (is_name bag ≡ true) × (is_id id ≡ true) × (name_in Item object ≡ Some id)
 
--- the object is what is stored of its kind under this name. Of kinds that aren't built nothing is stored
+-- the object is what is stored of its kind under this name. Of kinds that are kept elsewhere, or not at all, nothing is stored here
 abbrev pub IsStored : Kind → List ℕ → Doc → Type 0
 IsStored Org name object = ⊥
 IsStored Node name object = IsNamed Node name object

@@ -21,7 +21,7 @@ pub enum Refusal {
     TooLarge,
     /// 406: the version of the API is none that is taken.
     VersionNotTaken,
-    /// 501: the caller or the route is none that is built.
+    /// 501: the path is left out.
     NotImplemented,
     /// 404: no route has the path, or the organisation or the object that it names isn't there.
     NotFound,
@@ -93,7 +93,8 @@ impl From<NoMemory> for Stop {
 }
 
 impl Refusal {
-    /// The reply that tells of the refusal. Only those that name a field or checksums take memory.
+    /// The reply that tells of the refusal. Only those that tell more than fixed words take memory: `BadField`,
+    /// `BadParameter`, `BadQuery`, `MissingChecksums`, `DigestDiffers`, `MissingArtifact` and `Unsolvable`.
     #[tactic(auto, unfolding(json::specs::Print::escape_byte))]
     pub fn reply(self, alloc: Global) -> Result<Reply, NoMemory>
         ensures { IfOk result (λ reply. reply ≡ spec.reply_to self) }

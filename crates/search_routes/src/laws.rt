@@ -13,7 +13,7 @@ pub fn searches_keep_conditions()
     ensures { KeepsConditions Someone search_rules }
 {}
 
-/// These routes put no cookbook version in, so what cookbooks name stays.
+/// These routes put nothing on a shelf, so the conditions of files stay.
 pub fn searches_never_shelve()
     ensures { NeverShelves search_rules }
 {}
