@@ -17,7 +17,7 @@ ghost use Rattle.policy_routes.specs.Artifacts as spec;
 ghost use Rattle.policy_routes.specs.Moving.{if_there};
 ghost use Rattle.policy_routes.specs.PolicyRules as rules;
 
-use crate::moving::{list_of_first, prepared, told};
+use crate::moving::{list_of_first, or_stop, prepared, reply_with, told, unmoved};
 use crate::operations::PolicyOperation;
 use crate::trees::put;
 use access_lists::{Container, Perm};
@@ -26,8 +26,8 @@ use cookbook_meta::is_identifier;
 use cookbook_routes::{bad_manifest, missing_sums, shown_edition, shown_found};
 use doc_tree::{Fields, Kind, Name, NoMemory, Steps, Text, Tree, Trees, is_name};
 use org_core::{
-    Body, Context, Move, Moves, Need, Prepared, Refusal, Reply, Stop, absent, document_in, joined,
-    key_of, listed_need, made, org_uri, shown,
+    Body, Context, Move, Need, Prepared, Refusal, Reply, Stop, absent, document_in, joined, key_of,
+    listed_need, made, org_uri,
 };
 use org_shelves::{Artifacts, ShelfMove};
 use route_table::Verb;
@@ -67,11 +67,18 @@ fn putting(alloc: Global, name: Name, id: &Text, body: &Body) -> Result<PolicyOp
     ensures { Tells result (rules.putting_artifact name id.now (spec.artifact_said name id.now (bodies.document_in body.now))) }
 {
     let copied = id.copy(alloc)?;
-    let edition = match document_in(body) {
-        Ok(tree) => edition_of(alloc, tree, &name, id)?,
-        Err(refusal) => return Err(Stop::Refused(refusal)),
-    };
+    let edition = edition_in(alloc, body, &name, id)?;
     Ok(PolicyOperation::PutArtifact(name.into_text(), copied, edition))
+}
+
+// What is stored of the artifact of this name and identifier that a body gives.
+fn edition_in(alloc: Global, body: &Body, name: &Name, id: &Text) -> Result<Edition, Stop>
+    ensures { Tells result (spec.artifact_said name.now id.now (bodies.document_in body.now)) }
+{
+    match document_in(body) {
+        Ok(tree) => edition_of(alloc, tree, name, id),
+        Err(refusal) => Err(Stop::Refused(refusal)),
+    }
 }
 
 // What is stored of the artifact of this name and identifier that a tree gives.
@@ -137,11 +144,11 @@ pub(crate) fn put_refusal(
 }
 
 /// The artifacts are listed.
-pub(crate) fn list(alloc: Global, context: Context<'_>) -> Result<Prepared, NoMemory>
-    ensures { IfOk result (λ p. Finds (Ok p) (spec.artifacts_listed (seen context.entry)).answer) }
+pub(crate) fn list(alloc: Global, context: Context<'_>) -> Result<Prepared, Stop>
+    ensures { Finds result (spec.artifacts_listed (seen context.entry)).answer }
 {
     let tree = listing_tree(alloc, context.org, context.state.shelves().artifacts())?;
-    told(alloc, tree)
+    or_stop(told(alloc, tree))
 }
 
 fn listing_tree(alloc: Global, org: &Text, artifacts: &Artifacts) -> Result<Tree, NoMemory>
@@ -217,18 +224,15 @@ fn artifacts_path(alloc: Global, org: &Text, name: &Text) -> Result<Text, NoMemo
 pub(crate) fn show<L: Ledger>(
     alloc: Global,
     context: Context<'_>,
-    name: &Text,
-    id: &Text,
+    name: Text,
+    id: Text,
     steps: &mut Steps<L>,
 ) -> Result<Prepared, Stop>
-    ensures done { Finds result (spec.artifact_shown (seen context.entry) name.now id.now).answer }
-    ensures looked { Looked result (spec.artifact_shown (seen context.entry) name.now id.now).looks steps.old steps.new }
+    ensures done { Finds result (spec.artifact_shown (seen context.entry) name id).answer }
+    ensures looked { Looked result (spec.artifact_shown (seen context.entry) name id).looks steps.old steps.new }
 {
     steps.tick();
-    Ok(Prepared {
-        reply: artifact_reply(alloc, context, name, id)?,
-        moves: Moves::new(alloc),
-    })
+    or_stop(unmoved(alloc, artifact_reply(alloc, context, &name, &id)))
 }
 
 // 200 with the manifest of an artifact.
@@ -241,7 +245,7 @@ fn artifact_reply(
     ensures { IfOk result (λ reply. reply ≡ with_body 200 (spec_shown_found (seen context.entry).org (spec.artifact_at (seen context.entry) name.now id.now))) }
 {
     let tree = shown_found(alloc, context.org, artifact_at(context, name, id))?;
-    shown(alloc, &tree)
+    reply_with(alloc, tree)
 }
 
 /// An artifact is put.
@@ -251,17 +255,17 @@ pub(crate) fn put_artifact(
     name: Text,
     id: Text,
     edition: Edition,
-) -> Result<Prepared, NoMemory>
-    ensures { IfOk result (λ p. Finds (Ok p) (spec.artifact_put (seen context.entry) name id edition).answer) }
+) -> Result<Prepared, Stop>
+    ensures { Finds result (spec.artifact_put (seen context.entry) name id edition).answer }
 {
     match put_told(alloc, context, &name, &edition) {
         Ok((reply, list)) => {
             let put = ShelfMove::PutArtifact(name, id, edition);
-            prepared(alloc, reply, Move::OnShelves(put), list)
+            or_stop(prepared(alloc, reply, Move::OnShelves(put), list))
         }
         Err(fault) => {
             drop(edition);
-            Err(fault)
+            Err(Stop::from(fault))
         }
     }
 }
@@ -288,7 +292,9 @@ fn made_reply(alloc: Global, context: Context<'_>, edition: &Edition) -> Result<
     ensures { IfOk result (λ reply. reply ≡ with_body 201 (shown_doc (files_front (seen context.entry).org) edition.now)) }
 {
     let tree = shown_edition(alloc, context.org, edition)?;
-    made(alloc, &tree)
+    let reply = made(alloc, &tree);
+    drop(tree);
+    reply
 }
 
 /// An artifact goes.
@@ -303,7 +309,7 @@ pub(crate) fn remove<L: Ledger>(
     ensures looked { Looked result (spec.artifact_removed (seen context.entry) name id).looks steps.old steps.new }
 {
     steps.tick();
-    Ok(removed(alloc, context, name, id)?)
+    or_stop(removed(alloc, context, name, id))
 }
 
 // 200 with an artifact's manifest as it was, and the moves that take it away.

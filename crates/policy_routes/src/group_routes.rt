@@ -16,7 +16,7 @@ ghost use Rattle.policy_routes.specs.Policies as policies;
 ghost use Rattle.policy_routes.specs.PolicyRules as rules;
 
 use crate::lock_bodies::{artifact_refusal, lock_in};
-use crate::moving::{add, list_of_first, prepared, told};
+use crate::moving::{add, list_of_first, or_stop, prepared, reply_with, told, unmoved};
 use crate::operations::PolicyOperation;
 use crate::revision_routes::{lock_reply, revision_at, revision_moves, revision_need};
 use crate::trees::put;
@@ -175,11 +175,11 @@ fn differs(stored: Option<&Revision>, lock: &Tree) -> bool
 }
 
 /// The policy groups are listed.
-pub(crate) fn list(alloc: Global, context: Context<'_>) -> Result<Prepared, NoMemory>
-    ensures { IfOk result (λ p. Finds (Ok p) (spec.groups_listed (seen context.entry)).answer) }
+pub(crate) fn list(alloc: Global, context: Context<'_>) -> Result<Prepared, Stop>
+    ensures { Finds result (spec.groups_listed (seen context.entry)).answer }
 {
     let tree = listing_tree(alloc, context.org, context.state.shelves().groups())?;
-    told(alloc, tree)
+    or_stop(told(alloc, tree))
 }
 
 fn listing_tree(alloc: Global, org: &Text, groups: &PolicyGroups) -> Result<Tree, NoMemory>
@@ -241,52 +241,59 @@ fn revision_tree(alloc: Global, revision: &Text) -> Result<Tree, NoMemory>
 }
 
 /// A policy group is shown.
-pub(crate) fn show(alloc: Global, context: Context<'_>, group: &Text) -> Result<Prepared, NoMemory>
-    ensures { IfOk result (λ p. Finds (Ok p) (spec.group_shown (seen context.entry) group.now).answer) }
+pub(crate) fn show(alloc: Global, context: Context<'_>, group: Text) -> Result<Prepared, Stop>
+    ensures { Finds result (spec.group_shown (seen context.entry) group).answer }
 {
-    Ok(Prepared {
-        reply: group_reply(alloc, context, group)?,
-        moves: Moves::new(alloc),
-    })
+    or_stop(unmoved(alloc, group_reply(alloc, context, &group)))
 }
 
-// 200 with a group, of which one that isn't there assigns nothing.
+// 200 with a group.
 fn group_reply(alloc: Global, context: Context<'_>, group: &Text) -> Result<Reply, NoMemory>
     ensures { IfOk result (λ reply. reply ≡ spec.group_reply (seen context.entry) group.now) }
 {
-    let tree = match group_of(context, group) {
-        Some(assignments) => group_tree(alloc, context.org, group, assignments)?,
-        None => group_tree(alloc, context.org, group, &Assignments::none(alloc))?,
-    };
-    shown(alloc, &tree)
+    let tree = found_tree(alloc, context.org, group, group_of(context, group))?;
+    reply_with(alloc, tree)
+}
+
+// A group, of which one that isn't there assigns nothing.
+fn found_tree(
+    alloc: Global,
+    org: &Text,
+    name: &Text,
+    found: Option<&Assignments>,
+) -> Result<Tree, NoMemory>
+    ensures { IfOk result (λ tree. doc_of tree ≡ spec.group_doc org.now name.now (unwrap_or (option_copied found.entry) finite.empty)) }
+{
+    match found {
+        Some(assignments) => group_tree(alloc, org, name, assignments),
+        None => group_tree(alloc, org, name, &Assignments::none(alloc)),
+    }
 }
 
 /// A policy group goes, with its list. The revisions that it assigned stay.
-pub(crate) fn remove(alloc: Global, context: Context<'_>, group: Text) -> Result<Prepared, NoMemory>
-    ensures { IfOk result (λ p. Finds (Ok p) (spec.group_removed (seen context.entry) group).answer) }
+pub(crate) fn remove(alloc: Global, context: Context<'_>, group: Text) -> Result<Prepared, Stop>
+    ensures { Finds result (spec.group_removed (seen context.entry) group).answer }
 {
     let reply = group_reply(alloc, context, &group)?;
     let key = key_of(alloc, Kind::PolicyGroup, group.as_str())?;
     let take = Move::OnShelves(ShelfMove::TakeGroup(group));
-    prepared(alloc, reply, take, Some(Move::TakeList(key)))
+    or_stop(prepared(alloc, reply, take, Some(Move::TakeList(key))))
 }
 
 /// An assignment is shown.
 pub(crate) fn show_assignment<L: Ledger>(
     alloc: Global,
     context: Context<'_>,
-    group: &Text,
-    policy: &Text,
+    group: Text,
+    policy: Text,
     steps: &mut Steps<L>,
 ) -> Result<Prepared, Stop>
-    ensures done { Finds result (spec.assignment_shown (seen context.entry) group.now policy.now).answer }
-    ensures looked { Looked result (spec.assignment_shown (seen context.entry) group.now policy.now).looks steps.old steps.new }
+    ensures done { Finds result (spec.assignment_shown (seen context.entry) group policy).answer }
+    ensures looked { Looked result (spec.assignment_shown (seen context.entry) group policy).looks steps.old steps.new }
 {
     steps.tick();
-    Ok(Prepared {
-        reply: lock_reply(alloc, assigned_lock(context, group, policy))?,
-        moves: Moves::new(alloc),
-    })
+    let reply = lock_reply(alloc, assigned_lock(context, &group, &policy));
+    or_stop(unmoved(alloc, reply))
 }
 
 /// A lock is assigned, and stored before where it isn't there.
@@ -305,7 +312,7 @@ pub(crate) fn assign<L: Ledger>(
     if is_stored {
         steps.tick();
     }
-    Ok(assigned(alloc, context, is_stored, group, policy, lock)?)
+    or_stop(assigned(alloc, context, is_stored, group, policy, lock))
 }
 
 // The reply to an assignment with its moves, where it is known whether the lock is stored.
@@ -454,14 +461,14 @@ pub(crate) fn unassign<L: Ledger>(
     alloc: Global,
     context: Context<'_>,
     group: Text,
-    policy: &Text,
+    policy: Text,
     steps: &mut Steps<L>,
 ) -> Result<Prepared, Stop>
-    ensures done { Finds result (spec.unassigned_from (seen context.entry) group policy.now).answer }
-    ensures looked { Looked result (spec.unassigned_from (seen context.entry) group policy.now).looks steps.old steps.new }
+    ensures done { Finds result (spec.unassigned_from (seen context.entry) group policy).answer }
+    ensures looked { Looked result (spec.unassigned_from (seen context.entry) group policy).looks steps.old steps.new }
 {
     steps.tick();
-    Ok(unassigned(alloc, context, group, policy)?)
+    or_stop(unassigned(alloc, context, group, &policy))
 }
 
 // 200 with the lock that was assigned, and the move that takes the assignment out of the group.

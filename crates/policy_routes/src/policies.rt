@@ -4,7 +4,6 @@ ghost use Rattle.std.specs.Prelude.{◌≡◌, ◌∷◌, [], IfOk};
 ghost use Rattle.org_core.specs.Contexts.{seen};
 ghost use Rattle.org_core.specs.Refusals.{Tells};
 ghost use Rattle.policy_routes.specs.PolicyRules as spec;
-ghost use Rattle.policy_routes.specs.Stops.{or_stop as spec_or_stop};
 
 use crate::operations::PolicyOperation;
 use crate::{artifact_routes, group_routes, policy_listings, revision_routes};
@@ -151,54 +150,41 @@ impl Group for Policies {
         steps: &mut Steps<L>,
     ) -> Result<Prepared, Stop> {
         match operation {
-            PolicyOperation::ListArtifacts => or_stop(artifact_routes::list(alloc, context)),
+            PolicyOperation::ListArtifacts => artifact_routes::list(alloc, context),
             PolicyOperation::ShowArtifact(name, id) => {
-                artifact_routes::show(alloc, context, &name, &id, steps)
+                artifact_routes::show(alloc, context, name, id, steps)
             }
             PolicyOperation::PutArtifact(name, id, edition) => {
-                or_stop(artifact_routes::put_artifact(alloc, context, name, id, edition))
+                artifact_routes::put_artifact(alloc, context, name, id, edition)
             }
             PolicyOperation::RemoveArtifact(name, id) => {
                 artifact_routes::remove(alloc, context, name, id, steps)
             }
-            PolicyOperation::ListPolicies => or_stop(policy_listings::list(alloc, context)),
-            PolicyOperation::ShowPolicy(policy) => {
-                or_stop(policy_listings::show(alloc, context, &policy))
-            }
+            PolicyOperation::ListPolicies => policy_listings::list(alloc, context),
+            PolicyOperation::ShowPolicy(policy) => policy_listings::show(alloc, context, policy),
             PolicyOperation::RemovePolicy(policy) => {
-                or_stop(policy_listings::remove(alloc, context, policy))
+                policy_listings::remove(alloc, context, policy)
             }
             PolicyOperation::AddRevision(policy, lock) => {
-                or_stop(revision_routes::add(alloc, context, policy, lock))
+                revision_routes::add(alloc, context, policy, lock)
             }
             PolicyOperation::ShowRevision(policy, revision) => {
-                revision_routes::show(alloc, context, &policy, &revision, steps)
+                revision_routes::show(alloc, context, policy, revision, steps)
             }
-            PolicyOperation::ListGroups => or_stop(group_routes::list(alloc, context)),
-            PolicyOperation::ShowGroup(group) => or_stop(group_routes::show(
-                alloc, context, &group,
-            )),
-            PolicyOperation::RemoveGroup(group) => {
-                or_stop(group_routes::remove(alloc, context, group))
-            }
+            PolicyOperation::ListGroups => group_routes::list(alloc, context),
+            PolicyOperation::ShowGroup(group) => group_routes::show(alloc, context, group),
+            PolicyOperation::RemoveGroup(group) => group_routes::remove(alloc, context, group),
             PolicyOperation::ShowAssignment(group, policy) => {
-                group_routes::show_assignment(alloc, context, &group, &policy, steps)
+                group_routes::show_assignment(alloc, context, group, policy, steps)
             }
             PolicyOperation::Assign(group, policy, lock) => {
                 group_routes::assign(alloc, context, group, policy, lock, steps)
             }
             PolicyOperation::Unassign(group, policy) => {
-                group_routes::unassign(alloc, context, group, &policy, steps)
+                group_routes::unassign(alloc, context, group, policy, steps)
             }
         }
     }
-}
-
-// What was prepared, or want of memory as a stop.
-fn or_stop(prepared: Result<Prepared, NoMemory>) -> Result<Prepared, Stop>
-    ensures { result ≡ spec_or_stop prepared }
-{
-    Ok(prepared?)
 }
 
 // What is asked by reading alone.

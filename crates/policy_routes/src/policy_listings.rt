@@ -9,20 +9,20 @@ ghost use Rattle.org_core.specs.Outcomes.{Finds};
 ghost use Rattle.org_core.specs.Replies.{one_key};
 ghost use Rattle.policy_routes.specs.Policies as spec;
 
-use crate::moving::{prepared, told};
+use crate::moving::{or_stop, prepared, told, unmoved};
 use crate::trees::put;
 use doc_tree::{Fields, Kind, NoMemory, Text, Tree};
-use org_core::{Context, Move, Moves, Prepared, Reply, joined, key_of, org_uri, shown_key};
+use org_core::{Context, Move, Prepared, Reply, Stop, joined, key_of, org_uri, shown_key};
 use org_shelves::{Policies, Revision, ShelfMove};
 use shelves::SortedMap;
 use std::alloc::Global;
 
 /// The policies are listed.
-pub(crate) fn list(alloc: Global, context: Context<'_>) -> Result<Prepared, NoMemory>
-    ensures { IfOk result (λ p. Finds (Ok p) (spec.policies_listed (seen context.entry)).answer) }
+pub(crate) fn list(alloc: Global, context: Context<'_>) -> Result<Prepared, Stop>
+    ensures { Finds result (spec.policies_listed (seen context.entry)).answer }
 {
     let tree = listing_tree(alloc, context.org, context.state.shelves().policies())?;
-    told(alloc, tree)
+    or_stop(told(alloc, tree))
 }
 
 fn listing_tree(alloc: Global, org: &Text, policies: &Policies) -> Result<Tree, NoMemory>
@@ -71,36 +71,35 @@ fn revisions_tree(alloc: Global, shelf: &SortedMap<Text, Revision>) -> Result<Tr
 }
 
 /// A policy is shown.
-pub(crate) fn show(alloc: Global, context: Context<'_>, policy: &Text) -> Result<Prepared, NoMemory>
-    ensures { IfOk result (λ p. Finds (Ok p) (spec.policy_shown (seen context.entry) policy.now).answer) }
+pub(crate) fn show(alloc: Global, context: Context<'_>, policy: Text) -> Result<Prepared, Stop>
+    ensures { Finds result (spec.policy_shown (seen context.entry) policy).answer }
 {
-    Ok(Prepared {
-        reply: policy_reply(alloc, context, policy)?,
-        moves: Moves::new(alloc),
-    })
+    or_stop(unmoved(alloc, policy_reply(alloc, context, &policy)))
 }
 
-// 200 with the revisions of a policy, of which one that isn't there has none.
+// 200 with the revisions of a policy.
 fn policy_reply(alloc: Global, context: Context<'_>, policy: &Text) -> Result<Reply, NoMemory>
     ensures { IfOk result (λ reply. reply ≡ spec.policy_reply (seen context.entry) policy.now) }
 {
-    let revisions = match context.state.shelves().policies().shelf(policy) {
-        Some(shelf) => revisions_tree(alloc, shelf)?,
-        None => revisions_tree(alloc, &SortedMap::new(alloc))?,
-    };
-    shown_key(alloc, "revisions", revisions)
+    shown_key(alloc, "revisions", found_tree(alloc, context, policy)?)
+}
+
+// The revisions of a policy, of which one that isn't there has none.
+fn found_tree(alloc: Global, context: Context<'_>, policy: &Text) -> Result<Tree, NoMemory>
+    ensures { IfOk result (λ tree. doc_of tree ≡ spec.revisions_doc (shelf_of (spec.policies_of (seen context.entry)) policy.now)) }
+{
+    match context.state.shelves().policies().shelf(policy) {
+        Some(shelf) => revisions_tree(alloc, shelf),
+        None => revisions_tree(alloc, &SortedMap::new(alloc)),
+    }
 }
 
 /// A policy goes, with its revisions, its assignments and its list.
-pub(crate) fn remove(
-    alloc: Global,
-    context: Context<'_>,
-    policy: Text,
-) -> Result<Prepared, NoMemory>
-    ensures { IfOk result (λ p. Finds (Ok p) (spec.policy_removed (seen context.entry) policy).answer) }
+pub(crate) fn remove(alloc: Global, context: Context<'_>, policy: Text) -> Result<Prepared, Stop>
+    ensures { Finds result (spec.policy_removed (seen context.entry) policy).answer }
 {
     let reply = policy_reply(alloc, context, &policy)?;
     let key = key_of(alloc, Kind::Policy, policy.as_str())?;
     let take = Move::OnShelves(ShelfMove::TakePolicy(policy));
-    prepared(alloc, reply, take, Some(Move::TakeList(key)))
+    or_stop(prepared(alloc, reply, take, Some(Move::TakeList(key))))
 }

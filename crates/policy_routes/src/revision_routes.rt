@@ -15,7 +15,7 @@ ghost use Rattle.policy_routes.specs.Policies as spec;
 ghost use Rattle.policy_routes.specs.PolicyRules as rules;
 
 use crate::lock_bodies::{artifact_refusal, lock_in};
-use crate::moving::{followed, list_of_first};
+use crate::moving::{followed, list_of_first, or_stop, unmoved};
 use crate::operations::PolicyOperation;
 use access_lists::{Container, Perm};
 use doc_tree::{Kind, Name, NoMemory, Steps, Text, Tree, is_name};
@@ -125,18 +125,16 @@ pub(crate) fn revision_refusal(
 pub(crate) fn show<L: Ledger>(
     alloc: Global,
     context: Context<'_>,
-    policy: &Text,
-    revision: &Text,
+    policy: Text,
+    revision: Text,
     steps: &mut Steps<L>,
 ) -> Result<Prepared, Stop>
-    ensures done { Finds result (spec.revision_shown (seen context.entry) policy.now revision.now).answer }
-    ensures looked { Looked result (spec.revision_shown (seen context.entry) policy.now revision.now).looks steps.old steps.new }
+    ensures done { Finds result (spec.revision_shown (seen context.entry) policy revision).answer }
+    ensures looked { Looked result (spec.revision_shown (seen context.entry) policy revision).looks steps.old steps.new }
 {
     steps.tick();
-    Ok(Prepared {
-        reply: lock_reply(alloc, revision_at(context, policy, revision))?,
-        moves: Moves::new(alloc),
-    })
+    let reply = lock_reply(alloc, revision_at(context, &policy, &revision));
+    or_stop(unmoved(alloc, reply))
 }
 
 /// 200 with a lock that was found.
@@ -155,8 +153,8 @@ pub(crate) fn add(
     context: Context<'_>,
     policy: Text,
     lock: Lock,
-) -> Result<Prepared, NoMemory>
-    ensures { IfOk result (λ p. Finds (Ok p) (spec.revision_added (seen context.entry) policy lock).answer) }
+) -> Result<Prepared, Stop>
+    ensures { Finds result (spec.revision_added (seen context.entry) policy lock).answer }
 {
     match made(alloc, &lock.whole) {
         Ok(reply) => Ok(Prepared {
@@ -165,7 +163,7 @@ pub(crate) fn add(
         }),
         Err(fault) => {
             drop(lock);
-            Err(fault)
+            Err(Stop::from(fault))
         }
     }
 }
