@@ -1,5 +1,5 @@
 -- How the loop over a stream goes on from turn to turn, and what it comes to in the end.
-use Rattle.std.proofs.Common.{◌≡◌, ◌+◌, ℕ, List, [], ◌∷◌, ◌++◌, length, Option, None, Some, Result, Ok, Err, IfSome, IfErr, OnErr, MatchResult, sym, ap, subst, refl, ◌∙◌, append_assoc, append-nil}
+use Rattle.std.proofs.Common.{◌≡◌, ◌+◌, ℕ, List, [], ◌∷◌, ◌++◌, length, Option, None, Some, Result, Ok, Err, IfSome, IfErr, OnOk, OnErr, MatchResult, sym, ap, subst, refl, ◌∙◌, append_assoc, append-nil}
 use Rattle.std.specs.Io.KnownBytes.{append_known, prepend_known}
 use Rattle.std.proofs.KnownBytes.{prepend_known-nil}
 use Rattle.std.proofs.lemmas.List.{map-append}
@@ -63,6 +63,29 @@ reply_texts-push es e =
 abbrev pub WasTaken : ℕ → ℕ → Option (List ℕ) → Option (List ℕ) → Request → Type 0
 WasTaken place next old new read =
     (message : Message) × IsRead read (request_of message) × Takes place old new message × (next ≡ place + length (print_message message))
+
+served_turn : (result : Result (Unit {0}) End) (place next : ℕ) (old new : Option (List ℕ)) (before after : States) (held gained : Option (List ℕ)) (waited waiting : List ℕ) (read : Request)
+    → WasTaken place next old new read
+    → ((spelled : Request) → IsRead read spelled
+    → (reply : Reply) × Serves before spelled reply after
+    × MatchResult result (λ _. PassesOn held gained (waited ++ reply_text reply) waiting) (λ _. GainsPart held gained (waited ++ reply_text reply)))
+    → OnOk result (TakesTurn place next old new before after held gained waited waiting)
+served_turn (Ok done) place next old new before after held gained waited waiting read taken served =
+    let (message, spells, takes, reached) = taken in
+    let (reply, serves, passes) = served (request_of message) spells in
+    (message, reply, record { takes = takes; serves = serves }, reached, passes)
+served_turn (Err end) place next old new before after held gained waited waiting read taken served = tt
+
+-- a message was taken and served, and its reply went behind what waited: a turn
+pub taken_turn : (result : Result (Unit {0}) End) (place next : ℕ) (old new : Option (List ℕ)) (before after : States) (held gained : Option (List ℕ)) (waited waiting : List ℕ)
+    (found : Option Request) (read : Request)
+    → found ≡ Some read → IfSome found (WasTaken place next old new)
+    → ((spelled : Request) → IsRead read spelled
+    → (reply : Reply) × Serves before spelled reply after
+    × MatchResult result (λ _. PassesOn held gained (waited ++ reply_text reply) waiting) (λ _. GainsPart held gained (waited ++ reply_text reply)))
+    → OnOk result (TakesTurn place next old new before after held gained waited waiting)
+taken_turn result place next old new before after held gained waited waiting found read is taken =
+    served_turn result place next old new before after held gained waited waiting read (subst (λ (o : Option Request). IfSome o (WasTaken place next old new)) is taken)
 
 lost_turn : (result : Result (Unit {0}) End) (place next : ℕ) (old new rest : Option (List ℕ)) (before after : States) (held gained : Option (List ℕ)) (waited waiting : List ℕ) (read : Request)
     → WasTaken place next old new read
