@@ -1,12 +1,3 @@
-pub mod SearchLemmas
-pub mod TextSetLemmas
 pub mod StartingLemmas
 pub mod FormsLemmas
-pub mod NameSetLemmas
-pub mod MapValuesLemmas
-pub mod RoomLemmas
-pub mod MemberNamesLemmas
-pub mod LeavingLemmas
-pub mod CopyingLemmas
 pub mod PermittedLemmas
-pub mod ListsLemmas

@@ -1,20 +1,30 @@
 -- `is_permitted` is the truth value of `Permitted`.
-use Rattle.std.proofs.Common.{◌≡◌, ◌↔◌, ◌<◌, inl, inr, Bool, true, false, ℕ, zero, suc, List, [], ◌∷◌, length, slice_index_or, bytes_eq, IsTrue, refl, sym, ap, ◌∙◌, ◌||◌, arith}
+use Rattle.std.proofs.Common.{◌≡◌, ◌↔◌, ◌<◌, inl, inr, Bool, true, false, ℕ, zero, suc, List, [], ◌∷◌, length, slice_index_or, bytes_eq, IsTrue, Contains, refl, sym, ap, subst, ◌∙◌, ◌||◌, true≢false, arith}
 use Rattle.std.specs.Cmp.Lexicographic.{bytes_decides}
 use Rattle.std.specs.List.{list_any}
 use Rattle.std.proofs.lemmas.List.Folds.{Any-from_list_any, list_any-from_Any}
-use Rattle.indexmap.proofs.CallerLemmas.{Contains-list_any}
+use Rattle.std.proofs.lemmas.List.Elements.{Contains-get_or, Contains-append_right}
+use Rattle.membership.specs.TextSets.{lists}
+use Rattle.membership.specs.Members.{Membership}
+use Rattle.membership.specs.Belonging.{belongs, Belongs}
+use Rattle.membership.specs.Actors.{operator}
 use Rattle.access_lists.specs.declared.acl.Entry.{Entry}
-use Rattle.access_lists.specs.TextSets.{lists}
-use Rattle.access_lists.specs.Members.{Membership}
-use Rattle.access_lists.specs.Belonging.{belongs, Belongs}
-use Rattle.access_lists.specs.Permitted.{Permitted, is_permitted, operator}
+use Rattle.access_lists.specs.Permitted.{Permitted, is_permitted}
 
 -- a text that is in a list is listed
 lists-at : (xs : List (List ℕ)) (q : List ℕ) (k : ℕ) → k < length xs → slice_index_or xs k q ≡ q → lists xs q ≡ true
 lists-at [] q k within is = absurd (omega arith)
 lists-at (x ∷ xs) q zero within is = ap (λ b. b || lists xs q) ((bytes_decides q x).1 (sym is))
 lists-at (x ∷ xs) q (suc k) within is = elim (bytes_eq q x) as (λ b. (b || lists xs q) ≡ true) [ true ↦ refl | false ↦ lists-at xs q k (omega arith) is ]
+
+-- and one that is listed is in the list
+Contains-lists : (xs : List (List ℕ)) (q : List ℕ) → lists xs q ≡ true → Contains xs q
+Contains-lists [] q listed = absurd (true≢false (sym listed))
+Contains-lists (x ∷ xs) q listed =
+    elim (bytes_eq q x) as (λ b. bytes_eq q x ≡ b → (b || lists xs q) ≡ true → Contains (x ∷ xs) q) [
+      | true ↦ λ same _. subst (Contains (x ∷ xs)) (sym ((bytes_decides q x).0 same)) (Contains-get_or (x ∷ xs) 0 x (omega arith))
+      | false ↦ λ apart rest. Contains-append_right (x ∷ []) xs q (Contains-lists xs q rest)
+    ] refl listed
 
 second : (a b c : Bool) → b ≡ true → (a || (b || c)) ≡ true
 second true b c is = refl
@@ -30,7 +40,7 @@ permits : (membership : Membership) (entry : Entry) (caller : List ℕ) (a b c :
     → (a || (b || c)) ≡ true → Permitted membership entry caller
 unfolding Belongs
 permits membership entry caller true b c same actor group is = inl ((bytes_decides caller operator).0 same)
-permits membership entry caller false true c same actor group is = inr (inl (Contains-list_any bytes_eq (λ x y. (bytes_decides x y).0) entry.actors caller actor))
+permits membership entry caller false true c same actor group is = inr (inl (Contains-lists entry.actors caller actor))
 permits membership entry caller false false c same actor group is = inr (inr (Any-from_list_any (belongs membership caller) entry.groups (group ∙ is)))
 
 -- and each of these is

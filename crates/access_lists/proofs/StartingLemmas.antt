@@ -1,9 +1,9 @@
 -- The lists of starting groups are in order.
 use Rattle.std.proofs.Common.{◌≡◌, refl}
 use Rattle.std.specs.List.Sorted.{IsStrictlySortedBy}
-use Rattle.access_lists.specs.TextSets.{IsRising, in_order}
+use Rattle.membership.specs.TextSets.{IsRising, in_order}
+use Rattle.membership.proofs.TextSetLemmas.{in_order-rising}
 use Rattle.access_lists.specs.Starting as spec
-use Rattle.access_lists.proofs.TextSetLemmas.{in_order-rising}
 
 rising_A : IsRising spec.A
 unfolding IsStrictlySortedBy

@@ -1,10 +1,10 @@
 -- Access lists: for each permission the actors and the groups that have it.
 use Rattle.std.specs.Prelude.{ℕ, List, [], ◌∷◌, ◌++◌, codes}
+use Rattle.membership.specs.TextSets.{in_order, without}
 use Rattle.access_lists.specs.declared.acl.Acl.{Acl}
 use Rattle.access_lists.specs.declared.acl.Entry.{Entry}
 use Rattle.access_lists.specs.declared.perm.Perm.{Perm}
 use Rattle.access_lists.specs.declared.perm.Perm.TheVariants.{Create, Read, Update, Delete, Grant}
-use Rattle.access_lists.specs.TextSets.{in_order, without}
 
 -- the word of a permission
 abbrev pub word_of : Perm → List ℕ

@@ -1,14 +1,15 @@
 -- The documents of access lists: `{"PERM":{"actors":[..],"groups":[..]}}` for one permission, and
 -- `{"create":{"actors":[..],"groups":[..]},"delete":..,"grant":..,"read":..,"update":..}` for a whole list.
-use Rattle.std.specs.Prelude.{◌==◌, ℕ, Bool, true, false, List, [], ◌∷◌, length, map, codes, Option, Some, None, option_and_then, option_map, if◌then◌else◌}
-use Rattle.doc_tree.specs.Doc.{Doc, null, boolean, whole, words, list, dict, Docs, no_docs, then_doc, Pairs, docs_of, pairs_of, pairs_list}
+use Rattle.std.specs.Prelude.{◌==◌, ℕ, List, [], ◌∷◌, length, codes, Option, Some, None, option_and_then, option_map, if◌then◌else◌}
+use Rattle.doc_tree.specs.Doc.{Doc, null, boolean, whole, words, list, dict, Pairs, pairs_of, pairs_list}
 use Rattle.doc_tree.specs.Part.{pair_at}
+use Rattle.membership.specs.TextSets.{in_order, IsRising}
+use Rattle.membership.specs.TextTrees.{texts_in, texts_doc}
 use Rattle.access_lists.specs.declared.acl.Acl.{Acl}
 use Rattle.access_lists.specs.declared.acl.Entry.{Entry}
 use Rattle.access_lists.specs.declared.perm.Perm.{Perm}
 use Rattle.access_lists.specs.declared.perm.Perm.TheVariants.{Create, Read, Update, Delete, Grant}
 use Rattle.access_lists.specs.Acls.{word_of}
-use Rattle.access_lists.specs.TextSets.{in_order, IsRising}
 
 -- the fields of a dict that has just so many
 abbrev pub fields_of : ℕ → Doc → Option Pairs
@@ -18,43 +19,6 @@ fields_of count (whole z) = None
 fields_of count (words s) = None
 fields_of count (list ds) = None
 fields_of count (dict ps) = if length (pairs_list ps) == count then Some ps else None
-
--- the document is a text
-abbrev pub is_text : Doc → Bool
-is_text null = false
-is_text (boolean b) = false
-is_text (whole z) = false
-is_text (words s) = true
-is_text (list ds) = false
-is_text (dict ps) = false
-
--- these documents are texts
-abbrev pub are_texts : Docs → Bool
-are_texts no_docs = true
-are_texts (then_doc d ds) = if is_text d then are_texts ds else false
-
--- a text before others
-abbrev pub text_before : Doc → List (List ℕ) → List (List ℕ)
-text_before null rest = rest
-text_before (boolean b) rest = rest
-text_before (whole z) rest = rest
-text_before (words s) rest = s ∷ rest
-text_before (list ds) rest = rest
-text_before (dict ps) rest = rest
-
--- the texts among these documents
-abbrev pub texts_among : Docs → List (List ℕ)
-texts_among no_docs = []
-texts_among (then_doc d ds) = text_before d (texts_among ds)
-
--- the texts of a list of nothing but texts
-abbrev pub texts_in : Doc → Option (List (List ℕ))
-texts_in null = None
-texts_in (boolean b) = None
-texts_in (whole z) = None
-texts_in (words s) = None
-texts_in (list ds) = if are_texts ds then Some (texts_among ds) else None
-texts_in (dict ps) = None
 
 -- the texts of the list at a key
 abbrev pub texts_at : List ℕ → Pairs → Option (List (List ℕ))
@@ -91,10 +55,6 @@ acl_of_entries ps =
 -- the access list that a document is: its five entries are there, and nothing else
 abbrev pub acl_in : Doc → Option Acl
 acl_in doc = option_and_then acl_of_entries (fields_of 5 doc)
-
--- the list of these texts
-abbrev pub texts_doc : List (List ℕ) → Doc
-texts_doc texts = list (docs_of (map words texts))
 
 -- the document of an entry
 abbrev pub entry_doc : Entry → Doc

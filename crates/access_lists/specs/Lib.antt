@@ -1,17 +1,7 @@
-pub mod TextSets
 pub mod Acls
-pub mod MapValues
-pub mod Members
-pub mod MemberNames
-pub mod Belonging
 pub mod Permitted
 pub mod Strangers
-pub mod Lists
-pub mod Changes
-pub mod Rooms
-pub mod NameSets
 pub mod Starting
 pub mod Listed
 pub mod Forms
 pub mod Sent
-pub mod Laws

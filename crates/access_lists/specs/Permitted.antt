@@ -1,14 +1,11 @@
 -- Who may do what.
-use Rattle.std.specs.Prelude.{◌≡◌, ℕ, Bool, ◌||◌, bytes_eq, List, ◌⊎◌, Any, Contains, codes}
+use Rattle.std.specs.Prelude.{◌≡◌, ℕ, Bool, ◌||◌, bytes_eq, List, ◌⊎◌, Any, Contains}
 use Rattle.std.specs.List.{list_any}
+use Rattle.membership.specs.Actors.{operator}
+use Rattle.membership.specs.Belonging.{belongs, Belongs}
+use Rattle.membership.specs.Members.{Membership}
+use Rattle.membership.specs.TextSets.{lists}
 use Rattle.access_lists.specs.declared.acl.Entry.{Entry}
-use Rattle.access_lists.specs.Belonging.{belongs, Belongs}
-use Rattle.access_lists.specs.Members.{Membership}
-use Rattle.access_lists.specs.TextSets.{lists}
-
--- the operator of the site, who may do everything
-abbrev pub operator : List ℕ
-operator = codes "pivotal"
 
 -- the caller may do what the entry is of: he is the operator, or one of its actors, or belongs to one of its groups
 abbrev pub Permitted : Membership → Entry → List ℕ → Type 0

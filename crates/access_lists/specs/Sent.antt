@@ -1,10 +1,11 @@
 -- Entries as they were sent, whose lists are still those of a document.
 use Rattle.doc_tree.specs.Doc.{docs_of}
+use Rattle.membership.specs.TextTrees.{texts_among}
 use Rattle.access_lists.specs.declared.acl.Acl.{Acl}
 use Rattle.access_lists.specs.declared.acl.Entry.{Entry}
 use Rattle.access_lists.specs.declared.reading.SentEntry.{SentEntry}
 use Rattle.access_lists.specs.declared.reading.SentAcl.{SentAcl}
-use Rattle.access_lists.specs.Forms.{texts_among, entry_with}
+use Rattle.access_lists.specs.Forms.{entry_with}
 
 -- the entry that was sent
 abbrev pub entry_sent : SentEntry → Entry

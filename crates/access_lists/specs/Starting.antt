@@ -1,15 +1,10 @@
--- What an organisation starts with: its containers with their access lists, and its groups.
-use Rattle.std.specs.Prelude.{ℕ, Bool, bytes_eq, List, [], ◌∷◌, codes, Option}
+-- The containers with which an organisation starts, and their access lists.
+use Rattle.std.specs.Prelude.{ℕ, bytes_eq, List, [], ◌∷◌, codes, Option}
 use Rattle.std.specs.List.{find}
-use Rattle.std.specs.FinMap as finite
-use Rattle.std.specs.FinSet as set
 use Rattle.access_lists.specs.declared.acl.Acl.{Acl}
 use Rattle.access_lists.specs.declared.acl.Entry.{Entry}
 use Rattle.access_lists.specs.declared.starting.Container.{Container}
 use Rattle.access_lists.specs.declared.starting.Container.TheVariants.{Clients, Containers, CookbookArtifacts, Cookbooks, Data, Environments, Groups, Nodes, Policies, PolicyGroups, Roles, Sandboxes}
-use Rattle.access_lists.specs.TextSets.{lists}
-use Rattle.access_lists.specs.Members.{Members, GroupsByName, Membership, nobody}
-use Rattle.access_lists.specs.Changes.{with_groups}
 
 -- the name of a container
 abbrev pub name_of : Container → List ℕ
@@ -69,24 +64,3 @@ starting_list Policies = granting AU AKU AU AU A
 starting_list PolicyGroups = granting AU AKU AU AU A
 starting_list Roles = granting AU AKU AU AU A
 starting_list Sandboxes = granting AU AU AU A A
-
--- the groups with which an organisation starts
-abbrev pub starting_groups : List (List ℕ)
-starting_groups = codes "admins" ∷ codes "billing-admins" ∷ codes "clients" ∷ codes "users" ∷ []
-
--- whether a group is one of them
-abbrev pub is_starting_group : List ℕ → Bool
-is_starting_group name = lists starting_groups name
-
--- a group that has no members
-abbrev pub no_members : Members
-no_members = record { users = set.empty; clients = set.empty; groups = set.empty }
-
--- those groups, each without members
-abbrev pub groups_at_start : GroupsByName
-groups_at_start =
-    finite.insert (finite.insert (finite.insert (finite.insert finite.empty (codes "admins") no_members) (codes "billing-admins") no_members) (codes "clients") no_members) (codes "users") no_members
-
--- what an organisation starts with: nobody, and those groups
-abbrev pub starting : Membership
-starting = with_groups groups_at_start nobody

@@ -3,8 +3,8 @@ ghost use Rattle.std.specs.Prelude.{◌≡◌, IfOk, OnOk};
 ghost use Rattle.access_lists.specs.Acls.{entry_of, each_entry, with_actor, without_actor, without_group};
 
 use crate::perm::Perm;
-use crate::text_set::TextSet;
 use doc_tree::{NoMemory, Text};
+use membership::TextSet;
 use std::alloc::Global;
 
 /// Who has one permission.

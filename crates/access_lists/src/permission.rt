@@ -4,9 +4,9 @@ ghost use Rattle.access_lists.specs.Acls.{entry_of};
 ghost use Rattle.access_lists.specs.Permitted.{Permitted, is_permitted};
 
 use crate::acl::{Acl, Entry};
-use crate::groups::{Groups, is_operator};
 use crate::perm::Perm;
 use doc_tree::Text;
+use membership::{Groups, is_operator};
 
 /// Whether a caller may do to an object of this access list what the permission is of: the caller is
 /// `pivotal`, or one of the entry's actors, or belongs to one of its groups. It takes no memory, and as

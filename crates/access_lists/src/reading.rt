@@ -1,18 +1,18 @@
 //! Access lists that are read from documents.
-ghost use Rattle.std.specs.Prelude.{◌≡◌, ◌↔◌, ℕ, List, ◌++◌, IfOk, OnOk, Err, Some, None, option_map, option_and_then};
-ghost use Rattle.doc_tree.specs.Doc.{dict, docs_of, list, pairs_of};
+ghost use Rattle.std.specs.Prelude.{◌≡◌, ◌↔◌, IfOk, OnOk, Err, Some, None, option_map, option_and_then};
+ghost use Rattle.doc_tree.specs.Doc.{dict, docs_of, pairs_of};
 ghost use Rattle.doc_tree.specs.Tree.{doc_of};
 ghost use Rattle.doc_tree.specs.Part.{pair_at};
+ghost use Rattle.membership.specs.TextTrees as text_trees;
 ghost use Rattle.access_lists.specs.declared.fault.AclFault.TheVariants as fault;
 ghost use Rattle.access_lists.specs.Forms as spec;
-ghost use Rattle.access_lists.specs.TextSets.{in_order};
 ghost use Rattle.access_lists.specs.Sent.{entry_sent, acl_sent};
 
 use crate::acl::{Acl, Entry};
 use crate::fault::AclFault;
 use crate::perm::Perm;
-use crate::text_set::TextSet;
-use doc_tree::{Fields, NoMemory, Text, Tree, Trees};
+use doc_tree::{Fields, NoMemory, Tree, Trees};
+use membership::{texts_among, texts_in};
 use std::alloc::Global;
 
 /// The lists of an entry as they were sent, each of nothing but texts.
@@ -139,55 +139,11 @@ fn entry_of_lists(fields: &Fields) -> Option<SentEntry<'_>>
 
 /// The list of texts at a key.
 fn texts_at<'a>(fields: &'a Fields, key: &str) -> Option<&'a Trees>
-    ensures { option_map (λ trees. spec.texts_among (docs_of trees.now)) result ≡ spec.texts_at key.now (pairs_of fields.now) }
+    ensures { option_map (λ trees. text_trees.texts_among (docs_of trees.now)) result ≡ spec.texts_at key.now (pairs_of fields.now) }
 {
     match fields.get(key) {
         Some(tree) => texts_in(tree),
         None => None,
-    }
-}
-
-fn texts_in(tree: &Tree) -> Option<&Trees>
-    ensures { option_map (λ trees. spec.texts_among (docs_of trees.now)) result ≡ spec.texts_in (doc_of tree.now) }
-{
-    match tree {
-        Tree::List(trees) => texts_of(trees),
-        Tree::Null | Tree::Bool(_) | Tree::Whole(_) | Tree::Words(_) | Tree::Dict(_) => None,
-    }
-}
-
-fn texts_of(trees: &Trees) -> Option<&Trees>
-    ensures { option_map (λ trees. spec.texts_among (docs_of trees.now)) result ≡ spec.texts_in (list (docs_of trees.now)) }
-{
-    if are_texts(trees) { Some(trees) } else { None }
-}
-
-fn are_texts(trees: &Trees) -> bool
-    ensures { result ≡ spec.are_texts (docs_of trees.now) }
-{
-    for tree in trees.as_slice() {
-        if !is_text(tree) {
-            return false;
-        }
-    }
-    true
-}
-
-fn is_text(tree: &Tree) -> bool
-    ensures { result ≡ spec.is_text (doc_of tree.now) }
-{
-    matches!(tree, Tree::Words(_))
-}
-
-impl TextSet {
-    /// The texts of a list of nothing but texts, or `None` exactly where the tree is another.
-    pub fn read(alloc: Global, tree: &Tree) -> Result<Option<TextSet>, NoMemory>
-        ensures { IfOk result (λ texts. texts ≡ option_map in_order (spec.texts_in (doc_of tree.now))) }
-    {
-        match texts_in(tree) {
-            Some(trees) => Ok(Some(texts_among(alloc, trees)?)),
-            None => Ok(None),
-        }
     }
 }
 
@@ -226,24 +182,4 @@ impl SentAcl<'_> {
         self.delete.read_to(alloc, &mut acl.delete)?;
         self.grant.read_to(alloc, &mut acl.grant)
     }
-}
-
-/// The texts among these trees, in order.
-fn texts_among(alloc: Global, trees: &Trees) -> Result<TextSet, NoMemory>
-    ensures { IfOk result (λ texts. texts ≡ in_order (spec.texts_among (docs_of trees.now))) }
-{
-    let mut texts = Vec::with_capacity(alloc, trees.len())?;
-    for tree in trees.as_slice() {
-        push_text(alloc, &mut texts, tree)?;
-    }
-    Ok(TextSet::of(texts))
-}
-
-fn push_text(alloc: Global, texts: &mut Vec<Text>, tree: &Tree) -> Result<(), NoMemory>
-    ensures { OnOk result ((rest : List (List ℕ)) → texts.new.items ++ rest ≡ texts.old.items ++ spec.text_before (doc_of tree.now) rest) }
-{
-    if let Tree::Words(text) = tree {
-        texts.push(text.copy(alloc)?)?;
-    }
-    Ok(())
 }

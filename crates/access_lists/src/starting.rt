@@ -1,12 +1,12 @@
-//! What an organisation starts with: its containers with their access lists, and its groups.
+//! The containers with which an organisation starts, and their access lists.
 ghost use Rattle.std.specs.Prelude.{◌≡◌, [], ◌∷◌, ◌++◌, IfOk, OnOk, bytes_eq};
 ghost use Rattle.std.specs.List.{find};
 ghost use Rattle.access_lists.specs.Starting as spec;
 ghost use Rattle.access_lists.specs.Listed.{listed};
 
 use crate::acl::{Acl, Entry};
-use crate::text_set::TextSet;
 use doc_tree::{NoMemory, Text};
+use membership::TextSet;
 use std::alloc::Global;
 
 /// A container of an organisation: its access list says who may create objects of a kind, and a new
@@ -95,13 +95,6 @@ fn named_among(containers: &[Container], name: &str) -> Option<Container>
         .iter()
         .find(|container| name == container.name())
         .copied()
-}
-
-/// Whether a group is one of those with which an organisation starts.
-pub fn is_starting_group(name: &str) -> bool
-    ensures { result ≡ spec.is_starting_group name.now }
-{
-    matches!(name, "admins" | "billing-admins" | "clients" | "users")
 }
 
 /// The access list with which a container starts: no actors, and of the groups `admins`, `clients` and

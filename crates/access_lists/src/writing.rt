@@ -8,8 +8,7 @@ ghost use Rattle.access_lists.specs.Forms as spec;
 
 use crate::acl::{Acl, Entry};
 use crate::perm::Perm;
-use crate::text_set::TextSet;
-use doc_tree::{Fields, NoMemory, Text, Tree, Trees};
+use doc_tree::{Fields, NoMemory, Text, Tree};
 use std::alloc::Global;
 
 /// The document of an access list,
@@ -52,26 +51,6 @@ fn put_lists(alloc: Global, entry: &Entry, fields: &mut Fields) -> Result<(), No
 {
     put(alloc, fields, "actors", entry.actors.tree(alloc)?)?;
     put(alloc, fields, "groups", entry.groups.tree(alloc)?)
-}
-
-impl TextSet {
-    /// The list of these texts.
-    pub fn tree(&self, alloc: Global) -> Result<Tree, NoMemory>
-        ensures { IfOk result (λ tree. doc_of tree ≡ spec.texts_doc self.now) }
-    {
-        texts_tree(alloc, self.as_slice())
-    }
-}
-
-/// The list of these texts.
-pub fn texts_tree(alloc: Global, texts: &[Text]) -> Result<Tree, NoMemory>
-    ensures { IfOk result (λ tree. doc_of tree ≡ spec.texts_doc texts.now) }
-{
-    let mut trees = Trees::with_capacity(alloc, texts.len())?;
-    for text in texts {
-        trees.push(Tree::Words(text.copy(alloc)?))?;
-    }
-    Ok(Tree::List(trees))
 }
 
 fn put(alloc: Global, fields: &mut Fields, key: &str, tree: Tree) -> Result<(), NoMemory>

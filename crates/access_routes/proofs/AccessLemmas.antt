@@ -1,13 +1,14 @@
 -- The moves of groups, users, containers and access lists are orderly, and keep the conditions of an organisation's state.
 use Rattle.std.proofs.Common.{◌≡◌, ℕ, List, Bool, true, false, not, ◌&&◌, is_some, Option, Some, None, Result, Ok, Err, codes, refl, sym, ap, subst}
 use Rattle.std.specs.FinMap as finite
+use Rattle.membership.specs.declared.member_kind.MemberKind.TheVariants as member
+use Rattle.membership.specs.StartingGroups.{is_starting_group}
+use Rattle.membership.specs.Actors.{has as has_name, is_actor}
 use Rattle.access_lists.specs.declared.acl.Acl.{Acl}
 use Rattle.access_lists.specs.declared.acl.Entry.{Entry}
-use Rattle.access_lists.specs.declared.member_kind.MemberKind.TheVariants as member
 use Rattle.access_lists.specs.declared.perm.Perm.{Perm}
 use Rattle.access_lists.specs.declared.starting.Container.TheVariants as container
-use Rattle.access_lists.specs.Starting.{is_starting_group}
-use Rattle.access_lists.specs.Strangers.{has as has_name, is_actor, first_stranger}
+use Rattle.access_lists.specs.Strangers.{first_stranger}
 use Rattle.doc_tree.specs.Doc.{Doc}
 use Rattle.doc_tree.specs.Name.{is_name}
 use Rattle.doc_tree.specs.Part.{part_at}
@@ -17,29 +18,30 @@ use Rattle.object_forms.proofs.StoredLemmas.{named_from}
 use Rattle.object_forms.specs.Objects.{name_in}
 use Rattle.object_store.specs.Objects.{key}
 use Rattle.object_store.specs.declared.key.Key.{Key}
-use Rattle.route_table.specs.declared.verbs.Verb.{Verb}
-use Rattle.route_table.specs.declared.verbs.Verb.TheVariants.{Get, Post, Put, Delete, Other}
+use Rattle.org_requests.specs.declared.verbs.Verb.{Verb}
+use Rattle.org_requests.specs.declared.verbs.Verb.TheVariants.{Get, Post, Put, Delete, Other}
 use Rattle.org_core.proofs.ListedLemmas.{list_known}
 use Rattle.org_core.proofs.ConditionsLemmas.{created_known, put_list_keeps, create_group_keeps, replace_group_keeps, remove_group_keeps, create_user_keeps, remove_user_keeps}
 use Rattle.org_core.proofs.ReadLemmas.{IsRead, read_body, some_named, text_named}
-use Rattle.org_core.specs.Bodies.{document_in, object_in_body}
+use Rattle.org_core.specs.Bodies.{object_in_body}
+use Rattle.org_requests.specs.Documents.{document_in}
 use Rattle.org_core.specs.Conditions.{MeetsConditions}
 use Rattle.org_core.specs.Contexts.{Context, in_state}
 use Rattle.org_core.specs.FileMoves.{takes_shelf_room, shelved_by}
 use Rattle.org_core.specs.Keeping.{IsOrderlyGroup, KeepsConditions, LeadsToConditions, NeverShelves, Someone}
 use Rattle.org_core.specs.Moves.{IsOrderly, after_moves}
 use Rattle.org_core.specs.Needs.{if_named}
-use Rattle.org_core.specs.Refusals.{refuses}
+use Rattle.org_requests.specs.Refusals.{refuses}
 use Rattle.org_core.specs.States.{State, Organisation, list_in, membership_of}
-use Rattle.org_core.specs.declared.refusals.Refusal.{Refusal}
-use Rattle.org_core.specs.declared.refusals.Refusal.TheVariants.{AlreadyExists, NotAllowed}
-use Rattle.org_core.specs.declared.requests.Body.{Body}
-use Rattle.org_core.specs.declared.routes.AccessRoute.{AccessRoute}
-use Rattle.org_core.specs.declared.routes.AccessRoute.TheVariants as route
+use Rattle.org_requests.specs.declared.refusals.Refusal.{Refusal}
+use Rattle.org_requests.specs.declared.refusals.Refusal.TheVariants.{AlreadyExists, NotAllowed}
+use Rattle.org_requests.specs.declared.requests.Body.{Body}
+use Rattle.org_requests.specs.Routes.{AccessRoute}
+use Rattle.org_requests.specs.declared.routes.AccessRouteOf.TheVariants as route
 use Rattle.access_routes.proofs.StrangerLemmas.{entry_known, sent_known, with_entry_known}
 use Rattle.access_routes.specs.AccessLists.{entry_in, entry_moves, kind_at, permission_at, stranger_told, with_entry}
 use Rattle.access_routes.specs.AccessRules.{access_rules, access_asked, creating_group, creating_user, put_entry, put_group, replacing_entry, replacing_group, showing_list}
-use Rattle.access_routes.specs.Groups.{group_name}
+use Rattle.access_routes.specs.GroupRoutes.{group_name}
 use Rattle.access_routes.specs.Users.{or_bad_username, username_at, username_in}
 use Rattle.access_routes.specs.declared.operations.AccessOperation.{AccessOperation}
 use Rattle.access_routes.specs.declared.operations.AccessOperation.TheVariants as operation

@@ -1,37 +1,39 @@
 -- These routes refuse for want of a permission by their needs alone.
 use Rattle.std.proofs.Common.{ℕ, List, [], ◌∷◌, Bool, true, false, Option, Some, None, IfSome, Result, Ok, Err}
+use Rattle.membership.specs.declared.member_kind.MemberKind.{MemberKind}
+use Rattle.membership.specs.declared.member_kind.MemberKind.TheVariants as member
+use Rattle.membership.specs.Members.{Membership}
+use Rattle.membership.specs.StartingGroups.{is_starting_group}
+use Rattle.membership.specs.Actors as membership
 use Rattle.access_lists.specs.declared.acl.Entry.{Entry}
-use Rattle.access_lists.specs.declared.groups.Stranger.{Stranger}
-use Rattle.access_lists.specs.declared.groups.Stranger.TheVariants as stranger
-use Rattle.access_lists.specs.declared.member_kind.MemberKind.{MemberKind}
-use Rattle.access_lists.specs.declared.member_kind.MemberKind.TheVariants as member
+use Rattle.access_lists.specs.declared.strangers.Stranger.{Stranger}
+use Rattle.access_lists.specs.declared.strangers.Stranger.TheVariants as stranger
 use Rattle.access_lists.specs.declared.perm.Perm.{Perm}
 use Rattle.access_lists.specs.Forms.{entry_for}
-use Rattle.access_lists.specs.Members.{Membership}
-use Rattle.access_lists.specs.Starting.{is_starting_group}
-use Rattle.access_lists.specs.Strangers as membership
+use Rattle.access_lists.specs.Strangers.{first_stranger}
 use Rattle.doc_tree.specs.Doc.{Doc}
 use Rattle.doc_tree.specs.Name.{is_name}
 use Rattle.doc_tree.specs.declared.kind.Kind.{Kind}
 use Rattle.doc_tree.specs.declared.kind.Kind.TheVariants as kinds
 use Rattle.object_store.specs.declared.key.Key.{Key}
 use Rattle.object_store.specs.Objects.{key}
-use Rattle.route_table.specs.declared.verbs.Verb.{Verb}
-use Rattle.route_table.specs.declared.verbs.Verb.TheVariants.{Get, Post, Put, Delete, Other}
+use Rattle.org_requests.specs.declared.verbs.Verb.{Verb}
+use Rattle.org_requests.specs.declared.verbs.Verb.TheVariants.{Get, Post, Put, Delete, Other}
 use Rattle.org_core.proofs.PlainLemmas.{document_plain, body_plain, absent_plain, refuses_plain}
-use Rattle.org_core.specs.Bodies.{document_in, object_in_body}
+use Rattle.org_core.specs.Bodies.{object_in_body}
+use Rattle.org_requests.specs.Documents.{document_in}
 use Rattle.org_core.specs.Contexts.{Context}
 use Rattle.org_core.specs.Plain.{IsPlain, RefusesPlainly, NeverForbids}
-use Rattle.org_core.specs.Refusals.{first_some}
+use Rattle.org_requests.specs.Refusals.{first_some}
 use Rattle.org_core.specs.States.{membership_of}
-use Rattle.org_core.specs.declared.refusals.Refusal.{Refusal}
-use Rattle.org_core.specs.declared.refusals.Refusal.TheVariants.{AlreadyExists, BadField, NotAllowed}
-use Rattle.org_core.specs.declared.requests.Body.{Body}
-use Rattle.org_core.specs.declared.routes.AccessRoute.{AccessRoute}
-use Rattle.org_core.specs.declared.routes.AccessRoute.TheVariants as route
+use Rattle.org_requests.specs.declared.refusals.Refusal.{Refusal}
+use Rattle.org_requests.specs.declared.refusals.Refusal.TheVariants.{AlreadyExists, BadField, NotAllowed}
+use Rattle.org_requests.specs.declared.requests.Body.{Body}
+use Rattle.org_requests.specs.Routes.{AccessRoute}
+use Rattle.org_requests.specs.declared.routes.AccessRouteOf.TheVariants as route
 use Rattle.access_routes.specs.AccessLists.{kind_at, permission_at, or_bad_entry, entry_in, stranger_told}
 use Rattle.access_routes.specs.AccessRules.{access_rules, access_asked, access_refusal, creating_group, replacing_group, put_group, creating_user, replacing_entry, put_entry, showing_list}
-use Rattle.access_routes.specs.Groups.{field_of, sent, has_stranger, stranger_among, stranger_refusal}
+use Rattle.access_routes.specs.GroupRoutes.{field_of, sent, has_stranger, stranger_among, stranger_refusal}
 use Rattle.access_routes.specs.Users.{or_bad_username, username_at, username_in}
 use Rattle.access_routes.specs.declared.operations.AccessOperation.{AccessOperation}
 use Rattle.access_routes.specs.declared.operations.AccessOperation.TheVariants as operation
@@ -157,7 +159,7 @@ own_plain context (operation.RemoveUser name) = tt
 own_plain context operation.ListContainers = tt
 own_plain context (operation.ShowContainer name) = tt
 own_plain context (operation.ShowList k) = tt
-own_plain context (operation.ReplaceEntry k permission entry) = told_plain (membership.first_stranger (membership_of context.state) entry)
+own_plain context (operation.ReplaceEntry k permission entry) = told_plain (first_stranger (membership_of context.state) entry)
 
 does_plain : (context : Context) (its : AccessOperation) → RefusesPlainly (access_rules.does context its).answer
 does_plain context operation.ListGroups = tt

@@ -5,28 +5,30 @@ use Rattle.std.specs.Cmp.Lexicographic.{nat_list_cmp_total}
 use Rattle.std.specs.FinSet as set
 use Rattle.std.specs.List.{list_any, position_or_len}
 use Rattle.std.specs.Option.{option_or}
+use Rattle.doc_tree.specs.Text.{text_cmp}
+use Rattle.membership.specs.declared.member_kind.MemberKind.{MemberKind}
+use Rattle.membership.specs.declared.member_kind.MemberKind.TheVariants as member
+use Rattle.membership.specs.Lists.{members_of}
+use Rattle.membership.specs.Members.{Membership}
+use Rattle.membership.specs.Actors as membership
+use Rattle.membership.specs.TextSets.{lists}
+use Rattle.membership.proofs.TextSetLemmas.{any-tied}
 use Rattle.access_lists.specs.declared.acl.Acl.{Acl}
 use Rattle.access_lists.specs.declared.acl.Entry.{Entry}
-use Rattle.access_lists.specs.declared.groups.Stranger.{Stranger}
-use Rattle.access_lists.specs.declared.groups.Stranger.TheVariants as stranger
-use Rattle.access_lists.specs.declared.member_kind.MemberKind.{MemberKind}
-use Rattle.access_lists.specs.declared.member_kind.MemberKind.TheVariants as member
+use Rattle.access_lists.specs.declared.strangers.Stranger.{Stranger}
+use Rattle.access_lists.specs.declared.strangers.Stranger.TheVariants as stranger
 use Rattle.access_lists.specs.declared.perm.Perm.{Perm}
 use Rattle.access_lists.specs.declared.perm.Perm.TheVariants as permission
 use Rattle.access_lists.specs.Acls.{entry_of}
-use Rattle.access_lists.specs.Lists.{members_of}
-use Rattle.access_lists.specs.Members.{Membership}
-use Rattle.access_lists.specs.Strangers as membership
-use Rattle.access_lists.specs.TextSets.{text_cmp, lists}
-use Rattle.access_lists.proofs.TextSetLemmas.{any-tied}
+use Rattle.access_lists.specs.Strangers.{first_stranger}
 use Rattle.doc_tree.specs.Doc.{Doc}
 use Rattle.org_core.proofs.ListedLemmas.{NamesKnown}
 use Rattle.org_core.proofs.MembershipLemmas.{either, same_name}
 use Rattle.org_core.specs.AccessConditions.{has_member}
-use Rattle.org_core.specs.Refusals.{refuses, first_some}
-use Rattle.org_core.specs.declared.refusals.Refusal.{Refusal}
+use Rattle.org_requests.specs.Refusals.{refuses, first_some}
+use Rattle.org_requests.specs.declared.refusals.Refusal.{Refusal}
 use Rattle.access_routes.specs.AccessLists.{stranger_told, with_entry}
-use Rattle.access_routes.specs.Groups.{has_stranger, sent, stranger_among, stranger_refusal}
+use Rattle.access_routes.specs.GroupRoutes.{has_stranger, sent, stranger_among, stranger_refusal}
 
 -- ---- the first place at which a test passes
 
@@ -88,9 +90,9 @@ pub record EntryKnown (m : Membership) (entry : Entry) : Type 0 where
   pub actors : (name : List ℕ) → lists entry.actors name ≡ true → membership.is_actor m name ≡ true
   pub groups : (name : List ℕ) → lists entry.groups name ≡ true → membership.has m member.Group name ≡ true
 
-pub entry_known : (m : Membership) (entry : Entry) → stranger_told (membership.first_stranger m entry) ≡ None → EntryKnown m entry
+pub entry_known : (m : Membership) (entry : Entry) → stranger_told (first_stranger m entry) ≡ None → EntryKnown m entry
 entry_known m entry is =
-    let parts = neither_found _ _ (not_told (membership.first_stranger m entry) is) in
+    let parts = neither_found _ _ (not_told (first_stranger m entry) is) in
     record {
       actors = λ name listed. passed (membership.is_actor m name)
           (fails_at (λ n. not (membership.is_actor m n)) entry.actors name (none_passes (λ n. not (membership.is_actor m n)) entry.actors (none_mapped stranger.Actor _ parts.0)) listed);

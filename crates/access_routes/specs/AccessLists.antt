@@ -2,8 +2,8 @@
 use Rattle.std.specs.Prelude.{ℕ, Bool, not, ◌&&◌, is_some, List, [], ◌∷◌, Option, Some, None, cond, bytes_eq, codes, Result, Ok, Err}
 use Rattle.access_lists.specs.declared.acl.Acl.{Acl}
 use Rattle.access_lists.specs.declared.acl.Entry.{Entry}
-use Rattle.access_lists.specs.declared.groups.Stranger.{Stranger}
-use Rattle.access_lists.specs.declared.groups.Stranger.TheVariants as stranger
+use Rattle.access_lists.specs.declared.strangers.Stranger.{Stranger}
+use Rattle.access_lists.specs.declared.strangers.Stranger.TheVariants as stranger
 use Rattle.access_lists.specs.declared.perm.Perm.{Perm}
 use Rattle.access_lists.specs.declared.perm.Perm.TheVariants.{Create, Read, Update, Delete, Grant}
 use Rattle.access_lists.specs.Acls.{word_of}
@@ -17,8 +17,8 @@ use Rattle.org_core.specs.Outcomes.{Decided, shows, does_by, tells}
 use Rattle.org_core.specs.States.{State, list_in}
 use Rattle.org_core.specs.declared.moves.Move.{Move}
 use Rattle.org_core.specs.declared.moves.Move.TheVariants as move
-use Rattle.org_core.specs.declared.refusals.Refusal.{Refusal}
-use Rattle.org_core.specs.declared.refusals.Refusal.TheVariants.{BadField}
+use Rattle.org_requests.specs.declared.refusals.Refusal.{Refusal}
+use Rattle.org_requests.specs.declared.refusals.Refusal.TheVariants.{BadField}
 
 -- the kind of the objects of a collection whose objects have access lists
 abbrev pub kind_at : List ℕ → Option Kind

@@ -1,38 +1,39 @@
 -- The rules of groups, users, containers and access lists.
 use Rattle.std.specs.Prelude.{ℕ, Bool, true, false, List, [], ◌∷◌, Option, Some, None, codes, Result, Ok, Err}
+use Rattle.membership.specs.declared.member_kind.MemberKind.TheVariants as member
+use Rattle.membership.specs.StartingGroups.{is_starting_group}
+use Rattle.membership.specs.Actors as membership
 use Rattle.access_lists.specs.declared.acl.Entry.{Entry}
-use Rattle.access_lists.specs.declared.member_kind.MemberKind.TheVariants as member
 use Rattle.access_lists.specs.declared.perm.Perm.{Perm}
 use Rattle.access_lists.specs.declared.perm.Perm.TheVariants as permission
-use Rattle.access_lists.specs.Starting.{is_starting_group}
-use Rattle.access_lists.specs.Strangers as membership
 use Rattle.doc_tree.specs.Doc.{Doc}
 use Rattle.doc_tree.specs.Name.{is_name}
 use Rattle.doc_tree.specs.declared.kind.Kind.{Kind}
 use Rattle.doc_tree.specs.declared.kind.Kind.TheVariants as kinds
 use Rattle.object_store.specs.Objects.{key}
 use Rattle.object_store.specs.declared.key.Key.{Key}
-use Rattle.route_table.specs.declared.verbs.Verb.{Verb}
-use Rattle.route_table.specs.declared.verbs.Verb.TheVariants.{Get, Post, Put, Delete, Other}
-use Rattle.org_core.specs.Bodies.{document_in, object_in_body, absent}
+use Rattle.org_requests.specs.declared.verbs.Verb.{Verb}
+use Rattle.org_requests.specs.declared.verbs.Verb.TheVariants.{Get, Post, Put, Delete, Other}
+use Rattle.org_core.specs.Bodies.{object_in_body}
+use Rattle.org_requests.specs.Documents.{document_in, absent}
 use Rattle.org_core.specs.Contexts.{Context}
 use Rattle.org_core.specs.Outcomes.{Decided, shows, tells}
-use Rattle.org_core.specs.Refusals.{refuses}
+use Rattle.org_requests.specs.Refusals.{refuses}
 use Rattle.org_core.specs.Rules.{Rules}
 use Rattle.org_core.specs.States.{membership_of}
 use Rattle.org_core.specs.declared.needs.Need.{Need}
 use Rattle.org_core.specs.declared.needs.Need.TheVariants.{Listed}
-use Rattle.org_core.specs.declared.refusals.Refusal.{Refusal}
-use Rattle.org_core.specs.declared.refusals.Refusal.TheVariants.{AlreadyExists, NotAllowed, NotFound}
-use Rattle.org_core.specs.declared.requests.Body.{Body}
-use Rattle.org_core.specs.declared.routes.AccessRoute.{AccessRoute}
-use Rattle.org_core.specs.declared.routes.AccessRoute.TheVariants as route
+use Rattle.org_requests.specs.declared.refusals.Refusal.{Refusal}
+use Rattle.org_requests.specs.declared.refusals.Refusal.TheVariants.{AlreadyExists, NotAllowed, NotFound}
+use Rattle.org_requests.specs.declared.requests.Body.{Body}
+use Rattle.org_requests.specs.Routes.{AccessRoute}
+use Rattle.org_requests.specs.declared.routes.AccessRouteOf.TheVariants as route
 use Rattle.access_routes.specs.declared.operations.AccessOperation.{AccessOperation}
 use Rattle.access_routes.specs.declared.operations.AccessOperation.TheVariants as operation
 use Rattle.access_routes.specs.AccessLists.{kind_at, permission_at, entry_in, lacks_list, stranger_told, list_shown, entry_replaced}
 use Rattle.access_lists.specs.Strangers.{first_stranger}
 use Rattle.access_routes.specs.Containers.{lacks_container, container_doc, containers_listed}
-use Rattle.access_routes.specs.Groups.{group_name, lacks_group, stranger_refusal, group_shown, groups_listed, group_created, group_replaced, group_removed}
+use Rattle.access_routes.specs.GroupRoutes.{group_name, lacks_group, stranger_refusal, group_shown, groups_listed, group_created, group_replaced, group_removed}
 use Rattle.access_routes.specs.Users.{username_in, lacks_user, user_doc, users_listed, user_created, user_removed}
 
 -- to create the group that was read

@@ -4,7 +4,7 @@ use Rattle.access_lists.specs.Starting.{containers, container_named, name_of}
 use Rattle.doc_tree.specs.Doc.{Doc, words, dict, pairs_of}
 use Rattle.org_core.specs.Contexts.{Context}
 use Rattle.org_core.specs.Outcomes.{Decided, shows, tells}
-use Rattle.org_core.specs.Replies.{org_uri, paths_behind}
+use Rattle.org_requests.specs.Replies.{org_uri, paths_behind}
 
 -- the front of the paths of containers
 abbrev pub containers_front : List ℕ → List ℕ

@@ -1,4 +1,4 @@
-pub mod Groups
+pub mod GroupRoutes
 pub mod Users
 pub mod Containers
 pub mod AccessLists

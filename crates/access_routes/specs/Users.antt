@@ -1,8 +1,8 @@
 -- The routes of users.
 use Rattle.std.specs.Prelude.{ℕ, Bool, not, ◌&&◌, List, [], ◌∷◌, ◌++◌, map, Option, Some, None, option_and_then, codes, Result, Ok, Err}
-use Rattle.access_lists.specs.declared.member_kind.MemberKind.TheVariants as member
-use Rattle.access_lists.specs.MemberNames.{names_in}
-use Rattle.access_lists.specs.Strangers as membership
+use Rattle.membership.specs.declared.member_kind.MemberKind.TheVariants as member
+use Rattle.membership.specs.MemberNames.{names_in}
+use Rattle.membership.specs.Actors as membership
 use Rattle.doc_tree.specs.Doc.{Doc, words, list, docs_of}
 use Rattle.doc_tree.specs.Name.{is_name}
 use Rattle.doc_tree.specs.Part.{part_at}
@@ -10,11 +10,11 @@ use Rattle.object_forms.specs.Forms.{name_from}
 use Rattle.org_core.specs.Contexts.{Context}
 use Rattle.org_core.specs.Creating.{created_by}
 use Rattle.org_core.specs.Outcomes.{Decided, shows, does_by, tells}
-use Rattle.org_core.specs.Replies.{org_uri, one_key}
+use Rattle.org_requests.specs.Replies.{org_uri, one_key}
 use Rattle.org_core.specs.States.{State, membership_of}
 use Rattle.org_core.specs.declared.moves.Move.TheVariants as move
-use Rattle.org_core.specs.declared.refusals.Refusal.{Refusal}
-use Rattle.org_core.specs.declared.refusals.Refusal.TheVariants.{BadField}
+use Rattle.org_requests.specs.declared.refusals.Refusal.{Refusal}
+use Rattle.org_requests.specs.declared.refusals.Refusal.TheVariants.{BadField}
 
 -- the front of the paths of users
 abbrev pub users_front : List ℕ → List ℕ

@@ -1,19 +1,19 @@
 //! The group of the routes of groups, users, containers and access lists.
 
 ghost use Rattle.std.specs.Prelude.{◌≡◌, IfOk};
-ghost use Rattle.access_lists.specs.Starting.{is_starting_group};
-ghost use Rattle.org_core.specs.Refusals.{refuses};
+ghost use Rattle.membership.specs.StartingGroups.{is_starting_group};
+ghost use Rattle.org_requests.specs.Refusals.{refuses};
 ghost use Rattle.access_routes.specs.AccessRules as spec;
 
 use crate::operations::AccessOperation;
-use crate::{containers, groups, lists, users};
-use access_lists::{MemberKind, Perm, is_starting_group};
+use crate::{containers, group_routes, lists, users};
+use access_lists::Perm;
 use doc_tree::{Kind, NoMemory, Steps, Text};
+use membership::{MemberKind, is_starting_group};
 use object_finder::Finder;
-use org_core::{
-    AccessRoute, Context, Group, Lent, Need, Needs, Prepared, Refusal, Request, Stop, listed_need,
-};
-use route_table::Verb;
+use org_core::{Context, Group, Lent, Need, Needs, Prepared, listed_need};
+use org_requests::routes::AccessRoute;
+use org_requests::{Refusal, Request, Stop, Verb};
 use std::alloc::Global;
 use std::sync::ledger::Ledger;
 
@@ -40,8 +40,8 @@ impl Group for Access {
     ) -> Result<AccessOperation, Stop> {
         let (verb, body) = (request.verb, &request.body);
         match route {
-            AccessRoute::Groups => groups::groups_asked(alloc, verb, body),
-            AccessRoute::Group(name) => groups::group_asked(alloc, name, verb, body),
+            AccessRoute::Groups => group_routes::groups_asked(alloc, verb, body),
+            AccessRoute::Group(name) => group_routes::group_asked(alloc, name, verb, body),
             AccessRoute::Users => users::users_asked(alloc, verb, body),
             AccessRoute::User(name) => users::user_asked(alloc, name, verb),
             AccessRoute::Containers => containers::containers_asked(verb),
@@ -71,7 +71,7 @@ impl Group for Access {
             | AccessOperation::ListContainers => false,
             AccessOperation::ShowGroup(name)
             | AccessOperation::ReplaceGroup(name, _)
-            | AccessOperation::RemoveGroup(name) => groups::lacks_group(name, state),
+            | AccessOperation::RemoveGroup(name) => group_routes::lacks_group(name, state),
             AccessOperation::ShowUser(name) | AccessOperation::RemoveUser(name) => {
                 users::lacks_user(name, state)
             }
@@ -106,7 +106,7 @@ impl Group for Access {
             AccessOperation::CreateGroup(name) => {
                 Ok(exists(state.groups().has(MemberKind::Group, name)))
             }
-            AccessOperation::ReplaceGroup(_, group) => groups::stranger(alloc, group, state),
+            AccessOperation::ReplaceGroup(_, group) => group_routes::stranger(alloc, group, state),
             AccessOperation::RemoveGroup(name) => Ok(starting(name)),
             AccessOperation::CreateUser(name) => Ok(exists(state.groups().is_actor(name))),
             AccessOperation::ReplaceEntry(_, _, entry) => lists::stranger(alloc, entry, state),
@@ -130,13 +130,13 @@ impl Group for Access {
         _steps: &mut Steps<L>,
     ) -> Result<Prepared, Stop> {
         match operation {
-            AccessOperation::ListGroups => groups::list(alloc, context),
-            AccessOperation::CreateGroup(name) => groups::create(alloc, context, name),
-            AccessOperation::ShowGroup(name) => groups::show(alloc, context, name),
+            AccessOperation::ListGroups => group_routes::list(alloc, context),
+            AccessOperation::CreateGroup(name) => group_routes::create(alloc, context, name),
+            AccessOperation::ShowGroup(name) => group_routes::show(alloc, context, name),
             AccessOperation::ReplaceGroup(name, group) => {
-                groups::replace(alloc, context, name, group)
+                group_routes::replace(alloc, context, name, group)
             }
-            AccessOperation::RemoveGroup(name) => groups::remove(alloc, context, name),
+            AccessOperation::RemoveGroup(name) => group_routes::remove(alloc, context, name),
             AccessOperation::ListUsers => users::list(alloc, context),
             AccessOperation::CreateUser(name) => users::create(alloc, context, name),
             AccessOperation::ShowUser(name) => users::show(alloc, name),

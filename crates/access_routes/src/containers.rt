@@ -6,17 +6,16 @@ ghost use Rattle.doc_tree.specs.Doc.{words};
 ghost use Rattle.doc_tree.specs.Part.{with_pair};
 ghost use Rattle.doc_tree.specs.Tree.{doc_of};
 ghost use Rattle.org_core.specs.Contexts.{seen};
-ghost use Rattle.org_core.specs.Outcomes.{Finds, shows, tells};
-ghost use Rattle.org_core.specs.Refusals.{Tells};
+ghost use Rattle.org_core.specs.Outcomes.{IsAsDecided, shows, tells};
+ghost use Rattle.org_requests.specs.Refusals.{Tells};
 ghost use Rattle.access_routes.specs.AccessRules as rules;
 ghost use Rattle.access_routes.specs.Containers as spec;
 
 use crate::operations::AccessOperation;
-use crate::prepared::{or_stop, told};
 use access_lists::Container;
 use doc_tree::{Fields, NoMemory, Text, Texts, Tree};
-use org_core::{Context, Moves, Prepared, Refusal, Stop, joined, org_uri, shown_paths};
-use route_table::Verb;
+use org_core::{Context, Moves, Prepared, or_stop, prepared_showing};
+use org_requests::{Refusal, Stop, Verb, org_uri, shown_paths};
 use std::alloc::Global;
 
 /// What is asked of all containers.
@@ -56,16 +55,16 @@ pub(crate) fn lacks_container(name: &Text) -> bool
 
 /// Each container's name with its path.
 pub(crate) fn list(alloc: Global, context: Context<'_>) -> Result<Prepared, Stop>
-    ensures { Finds result (spec.containers_listed (seen context.entry)).answer }
+    ensures { IsAsDecided result (spec.containers_listed (seen context.entry)).answer }
 {
     or_stop(listed(alloc, context))
 }
 
 #[tactic(auto, using(crate::proofs::ContainersLemmas::names_rise))]
 fn listed(alloc: Global, context: Context<'_>) -> Result<Prepared, NoMemory>
-    ensures { IfOk result (λ p. Finds (Ok p) (spec.containers_listed (seen context.entry)).answer) }
+    ensures { IfOk result (λ p. IsAsDecided (Ok p) (spec.containers_listed (seen context.entry)).answer) }
 {
-    let front = joined(alloc, org_uri(alloc, context.org)?.as_str(), "/containers/")?;
+    let front = Text::joined(alloc, org_uri(alloc, context.org)?.as_str(), "/containers/")?;
     let names = names(alloc)?;
     let reply = shown_paths(alloc, front.as_str(), names.as_slice())?;
     Ok(Prepared {
@@ -87,10 +86,10 @@ fn names(alloc: Global) -> Result<Texts, NoMemory>
 
 /// A container is shown.
 pub(crate) fn show(alloc: Global, name: Text) -> Result<Prepared, Stop>
-    ensures { Finds result (tells (shows (spec.container_doc name))).answer }
+    ensures { IsAsDecided result (tells (shows (spec.container_doc name))).answer }
 {
     let tree = container_tree(alloc, &name)?;
-    or_stop(told(alloc, tree))
+    or_stop(prepared_showing(alloc, tree))
 }
 
 fn container_tree(alloc: Global, name: &Text) -> Result<Tree, NoMemory>

@@ -1,19 +1,11 @@
 //! Laws of the definitions, which need no code.
 
-ghost use Rattle.org_core.specs.Keeping.{IsOrderlyGroup, KeepsConditions, NeverShelves, Someone};
+ghost use Rattle.org_core.specs.Keeping.{NeverShelves, Someone};
+ghost use Rattle.org_core.specs.Lawful.{IsLawful};
 ghost use Rattle.access_routes.specs.AccessRules.{access_rules};
 
-/// The moves of these routes are orderly: who comes, comes first.
-pub fn access_is_orderly()
-    ensures { IsOrderlyGroup access_rules }
-{}
-
-/// What these routes do for a caller whom the organisation knows keeps the conditions of its state.
-pub fn access_keeps_conditions()
-    ensures { KeepsConditions Someone access_rules }
-{}
-
-/// These routes put nothing on a shelf, so the conditions of files stay.
-pub fn access_never_shelves()
-    ensures { NeverShelves access_rules }
+/// These routes are lawful for a caller whom the organisation knows. They put nothing on a shelf.
+pub fn access_is_lawful()
+    ensures lawful { IsLawful Someone access_rules }
+    ensures shelfless { NeverShelves access_rules }
 {}

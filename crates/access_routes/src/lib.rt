@@ -3,14 +3,13 @@
 
 mod access;
 mod containers;
-mod groups;
+mod group_routes;
 mod laws;
 mod lists;
 mod operations;
-mod prepared;
 mod trees;
 mod users;
 
 pub use access::Access;
-pub use laws::{access_is_orderly, access_keeps_conditions, access_never_shelves};
+pub use laws::access_is_lawful;
 pub use operations::AccessOperation;

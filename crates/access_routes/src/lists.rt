@@ -4,23 +4,22 @@ ghost use Rattle.std.specs.Prelude.{◌≡◌, Ok, Some, IfOk, option_copied};
 ghost use Rattle.access_lists.specs.Strangers.{first_stranger};
 ghost use Rattle.doc_tree.specs.Name.{is_name};
 ghost use Rattle.doc_tree.specs.Tree.{doc_of};
-ghost use Rattle.org_core.specs.Bodies as bodies;
-ghost use Rattle.org_core.specs.Outcomes.{Finds};
-ghost use Rattle.org_core.specs.Refusals.{Tells};
+ghost use Rattle.org_requests.specs.Documents as bodies;
+ghost use Rattle.org_core.specs.Outcomes.{IsAsDecided};
+ghost use Rattle.org_requests.specs.Refusals.{Tells};
 ghost use Rattle.org_core.specs.States.{list_in, membership_of, state_in};
 ghost use Rattle.access_routes.specs.AccessLists as spec;
 ghost use Rattle.access_routes.specs.AccessRules as rules;
 
 use crate::operations::AccessOperation;
-use crate::prepared::{or_stop, reply_with, told, with_moves};
 use access_lists::{Acl, AclFault, Entry, Perm, Stranger, acl_tree, read_acl};
 use doc_tree::{Fields, Kind, NoMemory, Text, Tree, is_name};
 use object_store::Key;
 use org_core::{
-    Body, Context, Move, Moves, OrgState, Prepared, Refusal, Stop, absent, document_in, key_of,
-    one_move,
+    Context, Move, Moves, OrgState, Prepared, key_of, one_move, or_stop, prepared_showing,
+    reply_showing, with_moves,
 };
-use route_table::Verb;
+use org_requests::{Body, Refusal, Stop, Verb, absent, document_in};
 use std::alloc::Global;
 
 /// What is asked of an access list.
@@ -166,7 +165,7 @@ pub(crate) fn stranger(
 ) -> Result<Option<Refusal>, NoMemory>
     ensures { IfOk result (λ o. o ≡ spec.stranger_told (first_stranger (membership_of (state_in state.now)) entry.now)) }
 {
-    let field = match state.groups().stranger(entry) {
+    let field = match access_lists::first_stranger(state.groups(), entry) {
         None => return Ok(None),
         Some(Stranger::Actor(_)) => "actors",
         Some(Stranger::Group(_)) => "groups",
@@ -176,10 +175,10 @@ pub(crate) fn stranger(
 
 /// The whole list is shown.
 pub(crate) fn show(alloc: Global, context: Context<'_>, key: Key) -> Result<Prepared, Stop>
-    ensures { Finds result (spec.list_shown key (state_in context.entry.state.now)).answer }
+    ensures { IsAsDecided result (spec.list_shown key (state_in context.entry.state.now)).answer }
 {
     let tree = list_tree(alloc, context.state.acl(&key))?;
-    or_stop(told(alloc, tree))
+    or_stop(prepared_showing(alloc, tree))
 }
 
 fn list_tree(alloc: Global, list: Option<&Acl>) -> Result<Tree, NoMemory>
@@ -199,10 +198,10 @@ pub(crate) fn replace(
     permission: Perm,
     entry: Entry,
 ) -> Result<Prepared, Stop>
-    ensures { Finds result (spec.entry_replaced key permission entry (state_in context.entry.state.now)).answer }
+    ensures { IsAsDecided result (spec.entry_replaced key permission entry (state_in context.entry.state.now)).answer }
 {
-    let moves = entry_moves(alloc, key, permission, entry, context.state)?;
-    let reply = reply_with(alloc, Tree::Dict(Fields::new(alloc)));
+    let moves = entry_moves(alloc, key, permission, entry, context.state);
+    let reply = reply_showing(alloc, Tree::Dict(Fields::new(alloc)));
     or_stop(with_moves(reply, moves))
 }
 

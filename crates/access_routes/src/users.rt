@@ -4,25 +4,24 @@ ghost use Rattle.std.specs.Prelude.{◌≡◌, ◌++◌, Ok, IfOk, codes, option
 ghost use Rattle.doc_tree.specs.Tree.{doc_of};
 ghost use Rattle.doc_tree.specs.Doc.{words};
 ghost use Rattle.object_forms.specs.Forms.{name_from};
-ghost use Rattle.org_core.specs.Bodies as bodies;
+ghost use Rattle.org_requests.specs.Documents as bodies;
 ghost use Rattle.org_core.specs.Contexts.{seen};
-ghost use Rattle.org_core.specs.Outcomes.{Finds, shows, tells};
-ghost use Rattle.org_core.specs.Refusals.{Tells};
-ghost use Rattle.org_core.specs.Replies.{one_key};
+ghost use Rattle.org_core.specs.Outcomes.{IsAsDecided, shows, tells};
+ghost use Rattle.org_requests.specs.Refusals.{Tells};
+ghost use Rattle.org_requests.specs.Replies.{one_key};
 ghost use Rattle.org_core.specs.States.{state_in};
 ghost use Rattle.access_routes.specs.AccessRules as rules;
 ghost use Rattle.access_routes.specs.Users as spec;
 
 use crate::operations::AccessOperation;
-use crate::prepared::{or_stop, reply_with, told};
 use crate::trees::put;
-use access_lists::MemberKind;
 use doc_tree::{Fields, NoMemory, Text, Tree, Trees, is_name};
+use membership::MemberKind;
 use org_core::{
-    Body, Comer, Context, Move, OrgState, Prepared, Refusal, Stop, create_by, document_in, joined,
-    one_move, org_uri,
+    Comer, Context, Move, OrgState, Prepared, create_by, one_move, or_stop, prepared_showing,
+    reply_showing,
 };
-use route_table::Verb;
+use org_requests::{Body, Refusal, Stop, Verb, document_in, org_uri};
 use std::alloc::Global;
 
 /// What is asked of all users.
@@ -99,11 +98,11 @@ pub(crate) fn lacks_user(name: &Text, state: &OrgState) -> bool
 
 /// Each user, in the order of their names.
 pub(crate) fn list(alloc: Global, context: Context<'_>) -> Result<Prepared, Stop>
-    ensures { Finds result (spec.users_listed (seen context.entry)).answer }
+    ensures { IsAsDecided result (spec.users_listed (seen context.entry)).answer }
 {
     let names = context.state.groups().names(alloc, MemberKind::User)?;
     let tree = users_tree(alloc, names.as_slice())?;
-    or_stop(told(alloc, tree))
+    or_stop(prepared_showing(alloc, tree))
 }
 
 fn users_tree(alloc: Global, names: &[Text]) -> Result<Tree, NoMemory>
@@ -139,7 +138,7 @@ fn dict_of(alloc: Global, key: &str, tree: Tree) -> Result<Tree, NoMemory>
 
 /// A user comes and joins the group `users`.
 pub(crate) fn create(alloc: Global, context: Context<'_>, name: Text) -> Result<Prepared, Stop>
-    ensures { Finds result (spec.user_created (seen context.entry) name).answer }
+    ensures { IsAsDecided result (spec.user_created (seen context.entry) name).answer }
 {
     let path = user_path(alloc, context.org, &name)?;
     let moves = one_move(alloc, user_comes(alloc, &name)?)?;
@@ -149,7 +148,7 @@ pub(crate) fn create(alloc: Global, context: Context<'_>, name: Text) -> Result<
 fn user_path(alloc: Global, org: &Text, name: &Text) -> Result<Text, NoMemory>
     ensures { IfOk result (λ path. path ≡ spec.users_front org.now ++ name.now) }
 {
-    joined(alloc, users_front(alloc, org)?.as_str(), name.as_str())
+    Text::joined(alloc, users_front(alloc, org)?.as_str(), name.as_str())
 }
 
 /// The move by which a user comes.
@@ -161,18 +160,18 @@ fn user_comes(alloc: Global, name: &Text) -> Result<Move, NoMemory>
 
 /// A user is shown.
 pub(crate) fn show(alloc: Global, name: Text) -> Result<Prepared, Stop>
-    ensures { Finds result (tells (shows (spec.user_doc name))).answer }
+    ensures { IsAsDecided result (tells (shows (spec.user_doc name))).answer }
 {
     let tree = user_tree(alloc, &name)?;
-    or_stop(told(alloc, tree))
+    or_stop(prepared_showing(alloc, tree))
 }
 
 /// A user goes, out of every group and every list.
 pub(crate) fn remove(alloc: Global, name: Text) -> Result<Prepared, Stop>
-    ensures { Finds result (spec.user_removed name).answer }
+    ensures { IsAsDecided result (spec.user_removed name).answer }
 {
     let tree = user_tree(alloc, &name)?;
-    let reply = reply_with(alloc, tree)?;
+    let reply = reply_showing(alloc, tree)?;
     let moves = one_move(alloc, Move::RemoveUser(name))?;
     Ok(Prepared { reply, moves })
 }
@@ -181,5 +180,5 @@ pub(crate) fn remove(alloc: Global, name: Text) -> Result<Prepared, Stop>
 fn users_front(alloc: Global, org: &Text) -> Result<Text, NoMemory>
     ensures { IfOk result (λ front. front ≡ spec.users_front org.now) }
 {
-    joined(alloc, org_uri(alloc, org)?.as_str(), "/users/")
+    Text::joined(alloc, org_uri(alloc, org)?.as_str(), "/users/")
 }

@@ -31,13 +31,13 @@ module _ {X : Type 0} where
       ap (λ (o : Ordering). cond (is_eq o) (Some x.1) (lookup (is_at (slice_cmp nat_cmp k)) xs)) above ∙ absent xs k v ys order.1
 
 module _ {A : Type 0} where
-  pub gathered-other : (q k : List ℕ) (xs : List (List ℕ × Vec Part A)) (group : Vec Part A) → is_eq (slice_cmp nat_cmp q k) ≡ false → gathered_in (xs ++ (k, group) ∷ []) q ≡ gathered_in xs q
-  gathered-other q k xs group other =
-      ap found_pieces (lookup-append-other (is_at (slice_cmp nat_cmp q)) xs ((k, group) ∷ []) (ap (λ (b : Bool). cond b (Some group) None) other))
+  pub gathered-other : (q k : List ℕ) (xs : List (List ℕ × Vec Part A)) (child : Vec Part A) → is_eq (slice_cmp nat_cmp q k) ≡ false → gathered_in (xs ++ (k, child) ∷ []) q ≡ gathered_in xs q
+  gathered-other q k xs child other =
+      ap found_pieces (lookup-append-other (is_at (slice_cmp nat_cmp q)) xs ((k, child) ∷ []) (ap (λ (b : Bool). cond b (Some child) None) other))
 
-  pub gathered-own : (k : List ℕ) (xs : List (List ℕ × Vec Part A)) (group : Vec Part A) (ys : List (List ℕ × Vec Part A)) → lookup (is_at (slice_cmp nat_cmp k)) xs ≡ None → gathered_in (xs ++ (k, group) ∷ ys) k ≡ pieces_of group.items
-  gathered-own k xs group ys none =
-      ap found_pieces (lookup-append-none (is_at (slice_cmp nat_cmp k)) xs ((k, group) ∷ ys) none ∙ ap (λ (o : Ordering). cond (is_eq o) (Some group) (lookup (is_at (slice_cmp nat_cmp k)) ys)) (key-self k))
+  pub gathered-own : (k : List ℕ) (xs : List (List ℕ × Vec Part A)) (child : Vec Part A) (ys : List (List ℕ × Vec Part A)) → lookup (is_at (slice_cmp nat_cmp k)) xs ≡ None → gathered_in (xs ++ (k, child) ∷ ys) k ≡ pieces_of child.items
+  gathered-own k xs child ys none =
+      ap found_pieces (lookup-append-none (is_at (slice_cmp nat_cmp k)) xs ((k, child) ∷ ys) none ∙ ap (λ (o : Ordering). cond (is_eq o) (Some child) (lookup (is_at (slice_cmp nat_cmp k)) ys)) (key-self k))
 
   pub gathered-none : (k : List ℕ) (xs : List (List ℕ × Vec Part A)) → lookup (is_at (slice_cmp nat_cmp k)) xs ≡ None → gathered_in xs k ≡ []
   gathered-none k xs none = ap found_pieces none

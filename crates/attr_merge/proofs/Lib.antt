@@ -3,6 +3,7 @@ pub mod EntryLemmas
 pub mod FieldLemmas
 pub mod GatheredLemmas
 pub mod LeafLemmas
+pub mod LevelLemmas
 pub mod ListLemmas
 pub mod OriginLemmas
 pub mod PairLemmas

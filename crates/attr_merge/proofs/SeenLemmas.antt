@@ -160,8 +160,8 @@ children-depth : (k : List ℕ) (cs : List Piece) → 0 < length (children k cs)
 children-depth k cs some = elim (under-children k cs) [ inl none ↦ (let no_length = ap (λ (xs : List Piece). length xs) none in absurd (omega (arith, no_length))) | inr less ↦ less ]
 
 -- parts that are what the layers have at a key
-pub group-depth : (k : List ℕ) (cs : List Piece) (parts : List Part) → pieces_of parts ≡ children k cs → 0 < length parts → suc (pieces_depth (pieces_of parts)) ≤ pieces_depth cs
-group-depth k cs [] is some = absurd (omega arith)
-group-depth k cs (x ∷ xs) is some =
+pub child-depth : (k : List ℕ) (cs : List Piece) (parts : List Part) → pieces_of parts ≡ children k cs → 0 < length parts → suc (pieces_depth (pieces_of parts)) ≤ pieces_depth cs
+child-depth k cs [] is some = absurd (omega arith)
+child-depth k cs (x ∷ xs) is some =
     let lengths = ap (λ (ps : List Piece). length ps) is in
     subst (λ (ps : List Piece). suc (pieces_depth ps) ≤ pieces_depth cs) (sym is) (children-depth k cs (omega (arith, lengths)))

@@ -4,9 +4,11 @@ pub mod Elements
 pub mod Families
 pub mod Laws
 pub mod Layers
+pub mod Lines
 pub mod Merge
 pub mod Merged
 pub mod Nodes
 pub mod Parts
 pub mod Pieces
+pub mod Sources
 pub mod Texts

@@ -1,5 +1,5 @@
 //! The merge of layers.
-ghost use Rattle.attr_merge.specs.Children.{AreValues, pieces_depth};
+ghost use Rattle.attr_merge.specs.Children.{AreValues};
 ghost use Rattle.attr_merge.specs.Effective.{IsEffective};
 ghost use Rattle.attr_merge.specs.Families.{all_elements, counting_below, joined, positions};
 ghost use Rattle.attr_merge.specs.Elements.{with_elements};
@@ -13,8 +13,8 @@ ghost use Rattle.doc_tree.specs.Part.{at};
 ghost use Rattle.doc_tree.specs.Tree.{doc_of};
 ghost use Rattle.std.specs.Prelude.{◌≡◌, ◌<◌, [], ◌∷◌, ℕ, List, IfOk, None, length, reverse};
 
+use crate::children::children_of;
 use crate::elements::Elements;
-use crate::groups::grouped;
 use crate::layers::Layer;
 use crate::merged::Merged;
 use crate::nodes::{Inner, Node};
@@ -65,13 +65,13 @@ fn merge_dicts(alloc: Global, parts: &[Part]) -> Result<Inner, NoMemory>
     ensures root { IfOk result (λ inner. origin_at [] (leaves_of inner.leaves.items) ≡ None) }
     ensures below { IfOk result (λ inner. AreEffective (pieces_of parts.now) (dict (pairs_of inner.fields)) (leaves_of inner.leaves.items)) }
 {
-    let groups = grouped(alloc, parts)?;
-    let empty = Inner::with_room(alloc, groups.len())?;
+    let children = children_of(alloc, parts)?;
+    let empty = Inner::with_room(alloc, children.len())?;
     let mut inner = empty;
-    for (key, group) in groups {
-        // No group is empty; that the merge ends needs to know it here.
-        if !group.is_empty() {
-            let node = merge_parts(alloc, &group)?;
+    for (key, child) in children {
+        // Each child has a part; that the merge ends needs to know it here.
+        if !child.is_empty() {
+            let node = merge_parts(alloc, &child)?;
             inner = inner.with(alloc, key, node)?;
         }
     }

@@ -4,7 +4,7 @@ ghost use Rattle.attr_merge.specs.Layers.{highest_first};
 ghost use Rattle.attr_merge.specs.Parts.{piece_of, pieces_of};
 ghost use Rattle.attr_merge.specs.Pieces.{is_null, is_plain};
 ghost use Rattle.doc_tree.specs.Tree.{doc_of};
-ghost use Rattle.std.specs.Prelude.{◌≡◌, ◌∷◌, ◌++◌, IfOk, OnOk, map};
+ghost use Rattle.std.specs.Prelude.{◌≡◌, ◌∷◌, ◌++◌, IfOk, OnOk};
 
 use crate::families::{Family, combines, family_of, same_family};
 use crate::layers::Layer;

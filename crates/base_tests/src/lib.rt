@@ -4,12 +4,12 @@
 #[cfg(test)]
 mod command_words_tests;
 #[cfg(test)]
+mod disk_tests;
+#[cfg(test)]
 mod doc_tree_tests;
 #[cfg(test)]
 mod ordered_keys_tests;
 #[cfg(test)]
 mod outside_core_tests;
-#[cfg(test)]
-mod outside_disk_tests;
 #[cfg(test)]
 mod yaml_subset_tests;

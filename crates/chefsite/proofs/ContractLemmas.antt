@@ -1,7 +1,7 @@
 -- What a run promises, put together of what its parts do.
 use Rattle.std.proofs.Common.{◌≡◌, ◌≢◌, ◌⊎◌, ℕ, List, [], Option, None, Some, IsTrue, is_some, inl, inr, refl, sym, ◌∙◌, subst}
 use Rattle.outside_core.specs.Failed.{Rose}
-use Rattle.outside_disk.specs.Disk.{Files, IsFile}
+use Rattle.outside_core.specs.Disk.{Files, IsFile}
 use Rattle.chefsite.specs.declared.statuses.Status.{Status}
 use Rattle.chefsite.specs.declared.statuses.Status.TheVariants.{Done, Usage, ReadFault, WriteFault, NoMemory, NotAMessage, BadFile}
 use Rattle.command_words.specs.Words.{Command, answer, explain, demo, command_of, file_of, IsCommand}

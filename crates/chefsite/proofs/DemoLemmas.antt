@@ -1,22 +1,19 @@
 -- How a demo goes on from request to request, and what it comes to in the end.
-use Rattle.std.proofs.Common.{◌≡◌, ℕ, zero, suc, List, [], ◌∷◌, ◌++◌, length, map, drop, slice_get, Option, Some, Result, Ok, Err, IfOk, sym, ap, subst, refl, ◌∙◌, append_assoc, append-nil}
-use Rattle.std.specs.Option.{option_map_or}
+use Rattle.std.proofs.Common.{◌≡◌, ℕ, List, [], ◌∷◌, ◌++◌, length, map, drop, slice_get, Option, Some, Result, Ok, Err, IfOk, sym, ap, subst, refl, ◌∙◌, append_assoc, append-nil}
 use Rattle.std.proofs.lemmas.List.{map-append}
 use Rattle.demo_requests.specs.DemoRequests.{demo_requests}
 use Rattle.demo_requests.specs.Lines.{Outcome, Sums, sums_of, lines_of}
 use Rattle.org_core.specs.FullStates.{none}
-use Rattle.org_core.specs.declared.replies.Reply.{Reply}
-use Rattle.org_core.specs.declared.requests.Request.{Request}
+use Rattle.org_requests.specs.declared.replies.Reply.{Reply}
+use Rattle.org_requests.specs.declared.requests.Place.{Place}
+use Rattle.org_requests.specs.declared.requests.Place.TheVariants.{Of, Organisations, LeftOut, NoRoute, NoMethod, NoMemory}
+use Rattle.org_requests.specs.declared.requests.Request.{Request}
+use Rattle.org_requests.specs.Requests.{IsReadAt, IsRead}
 use Rattle.org_machine.specs.Alone.{Exchange, States, own, nobody}
 use Rattle.org_machine.specs.Serving.{Progress, Serves}
 use Rattle.org_machine.proofs.Going.{none_yet, one_more}
 use Rattle.org_machine.proofs.PermittingLemmas.{all_permitted}
 use Rattle.http_wire.specs.Replies.{reply_text}
-use Rattle.http_wire.specs.Requests.{IsReadAt, IsRead}
-use Rattle.org_core.specs.declared.requests.Place.{Place}
-use Rattle.org_core.specs.declared.requests.Place.TheVariants.{Of, Organisations, LeftOut, NoRoute, NoMemory}
-use Rattle.site_shards.specs.declared.shards.Shard.{Shard}
-use Rattle.site_shards.specs.Shards.{states_in, site_states, shard_of}
 use Rattle.chefsite.specs.Demonstrating.{outcome_of, outcomes_of, AreCountsOf, IsToldOf, Demonstrating}
 
 -- a request that no bytes spell stands for itself
@@ -25,6 +22,7 @@ read_at (Of org route) request = refl
 read_at Organisations request = refl
 read_at LeftOut request = refl
 read_at NoRoute request = refl
+read_at (NoMethod org) request = refl
 read_at NoMemory request = tt
 
 pub read_itself : (request : Request) → IsRead request request
@@ -89,15 +87,6 @@ all_served size left states counts d done = (
 pub none_left : (left : List Request) (found : Option Request) → found ≡ slice_get left 0 → ((request : Request) → found ≡ Some request → ⊥) → left ≡ []
 none_left [] found is not_some = refl
 none_left (r ∷ rest) found is not_some = absurd (not_some r is)
-
-nobody_at : (shard : Shard) (place : ℕ) (name : List ℕ) → states_in shard name ≡ none
-    → option_map_or (λ s. states_in s name) (slice_get (shard ∷ []) place) none ≡ none
-nobody_at shard zero name absent = absent
-nobody_at shard (suc place) name absent = refl
-
--- a site of one shard has the organisations of this shard
-pub nobody_in : (shard : Shard) → ((name : List ℕ) → states_in shard name ≡ none) → (name : List ℕ) → site_states (shard ∷ []) name ≡ none
-nobody_in shard absent name = nobody_at shard (shard_of name 1) name (absent name)
 
 -- the lines that tell these counts
 pub told_if : {E : Type 0} (result : Result (List ℕ) E) (size : ℕ) (counts : Sums) → AreCountsOf size counts

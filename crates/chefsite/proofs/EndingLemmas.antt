@@ -1,175 +1,95 @@
--- What the end of a stream comes to, once the replies that wait went out.
-use Rattle.std.proofs.Common.{◌≡◌, ◌≢◌, ◌+◌, ◌-◌, ℕ, List, [], ◌∷◌, ◌++◌, length, Option, None, Some, sym, ap, subst, refl, ◌∙◌, append_assoc, append-nil, arith, inl, inr}
+-- What a stream that a site answered comes to, status by status.
+use Rattle.std.proofs.Common.{◌≡◌, ℕ, List, [], Option, sym, ap, subst, refl, ◌∙◌, inl, inr}
 use Rattle.std.specs.Option.{IfSome}
-use Rattle.std.specs.List.{flat_map}
-use Rattle.std.specs.Io.KnownBytes.{append_known, prepend_known, IsAtEnd}
-use Rattle.outside_core.specs.Sink.{GainsPart, PassesOn}
-use Rattle.http_wire.specs.Message.{Message, print_message, BeginsNone, last_place}
-use Rattle.http_wire.specs.Faults.{NoneBeginsIn}
-use Rattle.http_wire.specs.Splits.{Splits, BeginsAll, TakesAll, place_after}
-use Rattle.http_wire.proofs.SplitsLemmas.{BeginsAll-from_takes, Splits-unique}
-use Rattle.chefsite.specs.declared.answering.End.{End}
-use Rattle.chefsite.specs.declared.answering.End.TheVariants.{Closed, ReadFault, WriteFault, NotAMessage}
-use Rattle.chefsite.specs.Isolation.{reply_texts, Answers, IsAnswered, IsAnsweredToRest, IsAnsweredUpTo, IsCutShort}
-use Rattle.chefsite.specs.Turns.{SoFar, Stops, EndsStream}
+use Rattle.std.specs.Io.KnownBytes.{append_known}
+use Rattle.org_core.specs.FullStates.{none}
+use Rattle.org_requests.specs.declared.replies.Reply.{Reply}
+use Rattle.org_machine.specs.Alone.{Exchange, States}
+use Rattle.http_wire.specs.Message.{Message}
+use Rattle.http_wire.specs.Splits.{Splits, place_after}
+use Rattle.http_wire.proofs.SplitsLemmas.{Splits-unique}
+use Rattle.answer_stream.specs.declared.ends.End.{End}
+use Rattle.answer_stream.specs.declared.ends.End.TheVariants.{Closed, ReadFault, WriteFault, NotAMessage}
+use Rattle.answer_stream.specs.Answering.{AreAnswered, texts_of}
+use Rattle.answer_stream.specs.Ends as stream
+use Rattle.answer_stream.specs.Ends.{RepliesTo, EndsStream, HasFaultCause}
 use Rattle.chefsite.specs.declared.statuses.Status.{Status}
 use Rattle.chefsite.specs.declared.statuses.Status.TheVariants as status
+use Rattle.chefsite.specs.Isolation.{reply_texts, Answers, IsAnswered, IsAnsweredToRest, IsAnsweredUpTo, IsCutShort}
 use Rattle.chefsite.specs.Endings.{Says, HasStatusCause, TellsRest, IsComplete, status_of}
-use Rattle.outside_core.proofs.SinkLemmas.{append_known-append}
-use Rattle.http_wire.proofs.StreamLemmas.{BeginsNone-nil}
-use Rattle.chefsite.proofs.AloneLemmas.{answered}
-use Rattle.chefsite.proofs.TurnLemmas.{cut_emptying}
+use Rattle.chefsite.proofs.AloneLemmas.{exchanged, serving}
 
--- two fronts of a stream are one
-prepend_known-append : (xs ys : List ℕ) (known : Option (List ℕ)) → prepend_known xs (prepend_known ys known) ≡ prepend_known (xs ++ ys) known
-prepend_known-append xs ys None = refl
-prepend_known-append xs ys (Some zs) = ap Some (sym (append_assoc xs ys zs))
-
--- the bytes of the messages that were taken, before what is left
-takes-bytes : (place : ℕ) (old new : Option (List ℕ)) (ms : List Message) → TakesAll place old new ms
-    → old ≡ prepend_known (flat_map print_message ms) new
-takes-bytes place old None [] taken = taken
-takes-bytes place old (Some xs) [] taken = taken
-takes-bytes place old new (m ∷ ms) taken =
-    taken.1.bytes ∙ ap (prepend_known (print_message m)) (takes-bytes (place + length (print_message m)) taken.0 new ms taken.2)
-    ∙ prepend_known-append (print_message m) (flat_map print_message ms) new
-
--- those bytes, and then any others, begin with all of these messages
-takes-begins : (place : ℕ) (old new : Option (List ℕ)) (ms : List Message) (part : List ℕ) → TakesAll place old new ms
-    → BeginsAll place (flat_map print_message ms ++ part) ms part
-takes-begins place old new [] part taken = refl
-takes-begins place old new (m ∷ ms) part taken = (
-  flat_map print_message ms ++ part,
-  record {
-    message = taken.1.message;
-    ends = omega (arith, taken.1.ends);
-    whole = append_assoc (print_message m) (flat_map print_message ms) part;
-  },
-  takes-begins (place + length (print_message m)) taken.0 new ms part taken.2,
-)
-
--- all replies were written once what waited went out
-all_written : (held gained now : Option (List ℕ)) (texts waiting : List ℕ) → PassesOn held gained texts waiting → now ≡ append_known gained waiting
-    → now ≡ append_known held texts
-all_written held gained now texts waiting p out =
-    out ∙ ap (λ known. append_known known waiting) p.2 ∙ append_known-append held p.0 waiting ∙ ap (append_known held) (sym p.1)
-
-answers_so_far : (first now : Option (List ℕ)) (place : ℕ) (states : _) (held gained : Option (List ℕ)) (waiting : List ℕ)
-    → (s : SoFar first now place states held gained waiting) → Answers s.messages s.exchanges
-answers_so_far first now place states held gained waiting s = answered s.messages s.exchanges s.requests s.progress.alone
-
--- a stream of which nothing is left is split by the messages that were taken
-closed_split : (first now : Option (List ℕ)) (ms : List Message) → TakesAll 0 first now ms → IsAtEnd now → IfSome first (λ bytes. Splits 0 bytes ms [])
-closed_split None now ms taken at_end = tt
-closed_split (Some bytes) now ms taken at_end =
-    let begins = BeginsAll-from_takes 0 bytes now ms taken in
-    let nothing : begins.0 ≡ [] = subst IsAtEnd begins.1 at_end in
-    record {
-      whole = subst (BeginsAll 0 bytes ms) nothing begins.2;
-      none = BeginsNone-nil (last_place - place_after 0 ms);
-    }
+-- replies that are those to some messages are exchanges that answer these
+abbrev AreExchanges : RepliesTo → Type 0
+AreExchanges answered =
+    (messages : List Message) (replies : List Reply) → answered messages replies
+    → (exchanges : List Exchange) × Answers messages exchanges × (reply_texts exchanges ≡ texts_of replies)
 
 -- the input was read to its end
-pub says_closed : (first rest held gained now : Option (List ℕ)) (waiting : List ℕ)
-    → Stops Closed first rest held gained waiting → now ≡ append_known gained waiting → IsAnswered first rest held now
-says_closed first rest held gained now waiting stops out =
-    let s = stops.3 in (
-      s.messages,
-      s.exchanges,
-      record {
-        split = closed_split first stops.0 s.messages s.taken stops.4.0;
-        answers = answers_so_far first stops.0 stops.1 stops.2 held gained waiting s;
-        written = all_written held gained now (reply_texts s.exchanges) waiting s.written out;
-      },
-      stops.4.1,
-    )
-
--- a stream behind whose messages bytes are left that begin with none is split by these messages
-cut_split : (first now : Option (List ℕ)) (ms : List Message) (place : ℕ) → TakesAll 0 first now ms → place ≡ place_after 0 ms
-    → NoneBeginsIn place now → (rest : List ℕ) × IfSome first (λ bytes. Splits 0 bytes ms rest) × (rest ≢ [])
-cut_split None now ms place taken reached reason = (0 ∷ [], tt, λ same. absurd (omega (arith, ap length same)))
-cut_split (Some bytes) now ms place taken reached reason =
-    let begins = BeginsAll-from_takes 0 bytes now ms taken in
-    let left : (begins.0 ≢ []) × BeginsNone (last_place - place) begins.0 = subst (NoneBeginsIn place) begins.1 reason in (
-      begins.0,
-      record { whole = begins.2; none = subst (λ p. BeginsNone (last_place - p) begins.0) reached left.1 },
-      left.0,
+says_closed : (answered : RepliesTo) (left rest held now : Option (List ℕ)) → AreExchanges answered
+    → stream.IsAnswered answered left rest held now → IsAnswered left rest held now
+says_closed answered left rest held now are all =
+    let e = are all.0 all.1 all.2.answers in (
+      all.0,
+      e.0,
+      record { split = all.2.split; answers = e.1; written = all.2.written ∙ ap (append_known held) (sym e.2) },
+      all.3,
     )
 
 -- what follows the whole messages is none
-pub says_not_a_message : (told : ℕ) (first rest held gained now : Option (List ℕ)) (waiting : List ℕ)
-    → Stops (NotAMessage told) first rest held gained waiting → now ≡ append_known gained waiting → IsAnsweredToRest told first held now
-says_not_a_message told first rest held gained now waiting stops out =
-    let s = stops.3 in
-    let split = cut_split first stops.0 s.messages stops.1 s.taken s.reached stops.4.1 in (
-      s.messages,
-      s.exchanges,
-      split.0,
-      record {
-        split = split.1;
-        answers = answers_so_far first stops.0 stops.1 stops.2 held gained waiting s;
-        written = all_written held gained now (reply_texts s.exchanges) waiting s.written out;
-      },
-      split.2,
-      stops.4.0 ∙ s.reached,
+says_not_a_message : (answered : RepliesTo) (place : ℕ) (left held now : Option (List ℕ)) → AreExchanges answered
+    → stream.IsAnsweredToRest answered place left held now → IsAnsweredToRest place left held now
+says_not_a_message answered place left held now are all =
+    let e = are all.0 all.1 all.3.answers in (
+      all.0,
+      e.0,
+      all.2,
+      record { split = all.3.split; answers = e.1; written = all.3.written ∙ ap (append_known held) (sym e.2) },
+      all.4,
+      all.5,
     )
 
 -- a read failed
-pub says_read_fault : (first rest held gained now : Option (List ℕ)) (waiting : List ℕ)
-    → Stops ReadFault first rest held gained waiting → now ≡ append_known gained waiting → IsAnsweredUpTo first rest held now
-says_read_fault first rest held gained now waiting stops out =
-    let s = stops.3 in
-    let bytes = flat_map print_message s.messages in
-    let part = stops.4.0 in (
-      s.messages,
-      s.exchanges,
-      bytes ++ part,
-      part,
-      takes-bytes 0 first stops.0 s.messages s.taken ∙ ap (prepend_known bytes) stops.4.1 ∙ prepend_known-append bytes part rest,
-      record {
-        whole = takes-begins 0 first stops.0 s.messages part s.taken;
-        none = subst (λ p. BeginsNone (last_place - p) part) s.reached stops.4.2;
-      },
-      answers_so_far first stops.0 stops.1 stops.2 held gained waiting s,
-      all_written held gained now (reply_texts s.exchanges) waiting s.written out,
-    )
+says_read_fault : (answered : RepliesTo) (left rest held now : Option (List ℕ)) → AreExchanges answered
+    → stream.IsAnsweredUpTo answered left rest held now → IsAnsweredUpTo left rest held now
+says_read_fault answered left rest held now are all =
+    let e = are all.0 all.1 all.6 in
+    (all.0, e.0, all.2, all.3, all.4, all.5, e.1, all.7 ∙ ap (append_known held) (sym e.2))
 
--- nothing waits behind a write that failed
-cut_short_stays : (first held gained now : Option (List ℕ)) (waiting : List ℕ) → waiting ≡ [] → now ≡ append_known gained waiting
-    → IsCutShort first held gained → IsCutShort first held now
-cut_short_stays first held gained now waiting none out cut =
-    subst (IsCutShort first held) (sym (out ∙ ap (append_known gained) none ∙ nothing_more gained)) cut
-  where
-    nothing_more : (known : Option (List ℕ)) → append_known known [] ≡ known
-    nothing_more None = refl
-    nothing_more (Some xs) = ap Some (append-nil xs)
+-- a write failed
+says_cut : (answered : RepliesTo) (left held now : Option (List ℕ)) → AreExchanges answered
+    → stream.IsCutShort answered left held now → IsCutShort left held now
+says_cut answered left held now are all =
+    let e = are all.0 all.1 all.6 in
+    (all.0, e.0, all.2, all.3, all.4, all.5, e.1, e.2 ∙ all.7, all.8)
 
--- what waited went out, whatever ended the stream
-pub says_end : (end : End) (first rest held gained now : Option (List ℕ)) (waiting : List ℕ)
-    → now ≡ append_known gained waiting → EndsStream end first rest held gained waiting → Says (status_of end) first rest held now
-says_end Closed first rest held gained now waiting out ends = says_closed first rest held gained now waiting ends out
-says_end ReadFault first rest held gained now waiting out ends = says_read_fault first rest held gained now waiting ends out
-says_end WriteFault first rest held gained now waiting out ends = cut_short_stays first held gained now waiting ends.1 out ends.0
-says_end (NotAMessage told) first rest held gained now waiting out ends = says_not_a_message told first rest held gained now waiting ends out
+says_so : (end : End) (answered : RepliesTo) (left rest held now : Option (List ℕ)) → AreExchanges answered
+    → EndsStream end answered left rest held now → Says (status_of end) left rest held now
+says_so Closed answered left rest held now are ends = says_closed answered left rest held now are ends
+says_so ReadFault answered left rest held now are ends = says_read_fault answered left rest held now are ends
+says_so WriteFault answered left rest held now are ends = says_cut answered left held now are ends
+says_so (NotAMessage place) answered left rest held now are ends = says_not_a_message answered place left held now are ends
 
--- a front of nothing is nothing
-cut_short_after : (first held gained now : Option (List ℕ)) (waiting : List ℕ) → waiting ≡ [] → GainsPart gained now waiting
-    → IsCutShort first held gained → IsCutShort first held now
-cut_short_after first held gained now waiting none p cut =
-    let nothing : p.0 ≡ [] = no_front p.0 p.1 (sym p.2 ∙ none) in
-    cut_short_stays first held gained now p.0 nothing p.3 cut
-  where
-    no_front : (xs ys : List ℕ) → xs ++ ys ≡ [] → xs ≡ []
-    no_front [] ys e = refl
-    no_front (x ∷ xs) ys e = absurd (omega (arith, ap length e))
+-- a stream that was answered from no organisation on ends with the status that says so
+pub says_end : {S : Type 0} (states : S → States) (ended : Status) (end : End) (before after : S) (left rest held now : Option (List ℕ))
+    → ((name : List ℕ) → states before name ≡ none) → ended ≡ status_of end
+    → EndsStream end (AreAnswered (serving states) before after) left rest held now → Says ended left rest held now
+says_end states ended end before after left rest held now absent same ends =
+    subst (λ s. Says s left rest held now) (sym same)
+    (says_so end (AreAnswered (serving states) before after) left rest held now (exchanged states before after absent) ends)
 
--- a write that fails while what waits goes out cuts the replies short, whatever ended the stream
-pub says_cut : (end : End) (first rest held gained now : Option (List ℕ)) (waiting : List ℕ)
-    → GainsPart gained now waiting → EndsStream end first rest held gained waiting → IsCutShort first held now
-says_cut Closed first rest held gained now waiting p ends = cut_emptying first ends.0 ends.1 ends.2 held gained now waiting ends.3 p
-says_cut ReadFault first rest held gained now waiting p ends = cut_emptying first ends.0 ends.1 ends.2 held gained now waiting ends.3 p
-says_cut WriteFault first rest held gained now waiting p ends = cut_short_after first held gained now waiting ends.1 p ends.0
-says_cut (NotAMessage told) first rest held gained now waiting p ends = cut_emptying first ends.0 ends.1 ends.2 held gained now waiting ends.3 p
+status_caused : (end : End) (read_before read_now written_before written_now : ℕ)
+    → HasFaultCause end read_before read_now written_before written_now → HasStatusCause (status_of end) read_before read_now written_before written_now
+status_caused Closed rb rn wb wn cause = cause
+status_caused ReadFault rb rn wb wn cause = cause
+status_caused WriteFault rb rn wb wn cause = cause
+status_caused (NotAMessage place) rb rn wb wn cause = cause
+
+-- and has that status's cause
+pub has_cause : (ended : Status) (end : End) (read_before read_now written_before written_now : ℕ) → ended ≡ status_of end
+    → HasFaultCause end read_before read_now written_before written_now → HasStatusCause ended read_before read_now written_before written_now
+has_cause ended end rb rn wb wn same cause =
+    subst (λ s. HasStatusCause s rb rn wb wn) (sym same) (status_caused end rb rn wb wn cause)
 
 -- a status tells of the rest, since a stream splits in one way
 pub tells_rest : (status : Status) (left rest held now : Option (List ℕ)) → Says status left rest held now → TellsRest status left

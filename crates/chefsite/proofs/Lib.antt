@@ -1,5 +1,5 @@
+mod SiteLemmas
 mod AloneLemmas
-mod TurnLemmas
 mod EndingLemmas
 mod WordLemmas
 mod DemoLemmas

@@ -5,8 +5,8 @@ use Rattle.outside_core.specs.Failed.{Rose}
 use Rattle.outside_core.specs.Sink.{GainsPart}
 use Rattle.demo_requests.specs.DemoRequests.{demo_requests}
 use Rattle.demo_requests.specs.Lines.{Outcome, Sums, sums_of, lines}
-use Rattle.org_core.specs.declared.replies.Reply.{Reply}
-use Rattle.org_core.specs.declared.requests.Request.{Request}
+use Rattle.org_requests.specs.declared.replies.Reply.{Reply}
+use Rattle.org_requests.specs.declared.requests.Request.{Request}
 use Rattle.org_core.specs.FullStates.{none}
 use Rattle.org_machine.specs.Alone.{Exchange, Alone, States, own, nobody}
 use Rattle.org_machine.specs.Permitting.{ArePermittedExactly}

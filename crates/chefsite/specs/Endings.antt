@@ -3,11 +3,11 @@ use Rattle.std.specs.Prelude.{◌≡◌, ◌≢◌, ◌⊎◌, ℕ, List, [], Op
 use Rattle.outside_core.specs.Failed.{Rose}
 use Rattle.http_wire.specs.Message.{Message}
 use Rattle.http_wire.specs.Splits.{Splits, place_after}
+use Rattle.answer_stream.specs.declared.ends.End.{End}
+use Rattle.answer_stream.specs.declared.ends.End.TheVariants.{Closed}
+use Rattle.answer_stream.specs.declared.ends.End.TheVariants as end
 use Rattle.chefsite.specs.declared.statuses.Status.{Status}
 use Rattle.chefsite.specs.declared.statuses.Status.TheVariants.{Done, Usage, ReadFault, WriteFault, NoMemory, NotAMessage, BadFile}
-use Rattle.chefsite.specs.declared.answering.End.{End}
-use Rattle.chefsite.specs.declared.answering.End.TheVariants.{Closed}
-use Rattle.chefsite.specs.declared.answering.End.TheVariants as end
 use Rattle.chefsite.specs.Isolation.{IsAnswered, IsAnsweredToRest, IsAnsweredUpTo, IsCutShort}
 
 -- what a status says: `left` and `rest` are what the input had before and has after, `held` and `now` what the output had and has

@@ -4,7 +4,7 @@ use Rattle.std.specs.Process.{exit_status}
 use Rattle.std.specs.declared.io.ErrorKind.{ErrorKind}
 use Rattle.std.specs.declared.io.ErrorKind.TheVariants.{InvalidData}
 use Rattle.std.specs.declared.process.ExitCode.{ExitCode}
-use Rattle.outside_disk.specs.Disk.{Files}
+use Rattle.outside_core.specs.Disk.{Files}
 use Rattle.chefsite.specs.declared.statuses.Status.{Status}
 use Rattle.chefsite.specs.declared.statuses.Status.TheVariants.{Usage, NoMemory}
 use Rattle.chefsite.specs.Statuses.{code}

@@ -3,9 +3,9 @@ use Rattle.std.specs.Prelude.{◌≡◌, ℕ, List, Option, None, Some, option_a
 use Rattle.std.specs.Io.KnownBytes.{append_known}
 use Rattle.outside_core.specs.Failed.{Rose}
 use Rattle.outside_core.specs.Sink.{GainsPart}
-use Rattle.outside_disk.specs.Disk.{Files, IsFile}
-use Rattle.layer_sources.specs.Sources.{layers_in}
-use Rattle.layer_sources.specs.Lines.{Explains}
+use Rattle.outside_core.specs.Disk.{Files, IsFile}
+use Rattle.attr_merge.specs.Sources.{layers_in}
+use Rattle.attr_merge.specs.Lines.{Explains}
 use Rattle.chefsite.specs.declared.statuses.Status.{Status}
 use Rattle.chefsite.specs.declared.statuses.Status.TheVariants.{Done, Usage, ReadFault, WriteFault, NoMemory, NotAMessage, BadFile}
 

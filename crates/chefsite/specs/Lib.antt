@@ -1,7 +1,6 @@
 pub mod Statuses
 pub mod Notes
 pub mod Isolation
-pub mod Turns
 pub mod Endings
 pub mod Explaining
 pub mod Demonstrating

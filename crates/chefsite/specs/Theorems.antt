@@ -28,9 +28,9 @@
 --
 -- What `explain` prints is told by `Explained`, which stands on these:
 --
---   Explains, lines            layer_sources/specs/Lines.antt   the lines that explain the bytes of a sources file
---   layers_in                  layer_sources/specs/Sources.antt the layers that these bytes give, if they have the format
---   IsFile                     outside_disk/specs/Disk.antt     the file of a name, where the disk tells its files
+--   Explains, lines            attr_merge/specs/Lines.antt      the lines that explain the bytes of a sources file
+--   layers_in                  attr_merge/specs/Sources.antt    the layers that these bytes give, if they have the format
+--   IsFile                     outside_core/specs/Disk.antt     the file of a name, where the disk tells its files
 --   IsBadFile, IsExplainedBy   specs/Explaining.antt            what the disk tells of a file is no sources file; these lines explain it
 --
 -- What `demo` prints is told by `Demonstrated`, which stands on these:
@@ -55,7 +55,7 @@ use Rattle.std.specs.Prelude.{◌≡◌, ◌≢◌, ◌⊎◌, ℕ, List, Option
 use Rattle.std.specs.Io.KnownBytes.{append_known}
 use Rattle.outside_core.specs.Failed.{Rose}
 use Rattle.outside_core.specs.Sink.{GainsPart}
-use Rattle.outside_disk.specs.Disk.{Files}
+use Rattle.outside_core.specs.Disk.{Files}
 use Rattle.chefsite.specs.declared.statuses.Status.{Status}
 use Rattle.chefsite.specs.declared.statuses.Status.TheVariants.{Done, Usage, ReadFault, WriteFault, NoMemory, NotAMessage, BadFile}
 use Rattle.command_words.specs.Words.{IsCommand, answer, explain, demo, command_of, file_of}

@@ -3,18 +3,19 @@
 ghost use Rattle.std.specs.Prelude.{◌≡◌, ◌<◌, ◌≤◌, ◌-◌, ◌^◌, ◌++◌, ◌∷◌, ℕ, List, [], IfOk};
 ghost use Rattle.demo_requests.specs.Lines.{Outcome, sums_of};
 ghost use Rattle.org_core.specs.FullStates.{none};
-ghost use Rattle.org_core.specs.declared.replies.Reply as replies;
+ghost use Rattle.org_requests.specs.declared.replies.Reply as replies;
 ghost use Rattle.org_machine.specs.Serving.{Serves};
-ghost use Rattle.site_shards.specs.Shards.{site_states, IsSite};
+ghost use Rattle.shard_core.specs.Shards.{site_states};
 ghost use Rattle.chefsite.specs.Demonstrating.{SaysOfDemo, HasDemoCause, IsToldOf, AreCountsOf, outcome_of};
 
+use crate::site::Site;
 use crate::statuses::Status;
+use answer_stream::Answering;
 use demo_requests::{Counts, Demo};
 use doc_tree::{NoMemory, Steps, Text};
 use http_wire::reply_length;
-use org_machine::Request;
+use org_requests::Request;
 use outside_core::{Failed, Sink};
-use site_shards::{Shard, serve};
 use std::alloc::Global;
 use std::hash::RandomState;
 use std::sync::ledger::Ledger;
@@ -50,8 +51,8 @@ fn lines_of<L: Ledger>(
     requires { size ≤ 200 }
     ensures { IfOk result (IsToldOf size) }
 {
-    let mut shards = [Shard::new(alloc, hasher)];
-    let counts = serve_all(alloc, size, &mut shards, steps)?;
+    let mut site = Site::new(alloc, hasher);
+    let counts = serve_all(alloc, size, &mut site, steps)?;
     counts.lines(alloc)
 }
 
@@ -59,18 +60,17 @@ fn lines_of<L: Ledger>(
 fn serve_all<L: Ledger>(
     alloc: Global,
     size: u64,
-    shards: &mut [Shard],
+    site: &mut Site,
     steps: &mut Steps<L>,
 ) -> Result<Counts, NoMemory>
     requires size { size ≤ 200 }
-    requires site { IsSite shards.old }
-    requires nobody { (name : List ℕ) → site_states shards.old name ≡ none }
+    requires nobody { (name : List ℕ) → site_states site.old.shards name ≡ none }
     ensures { IfOk result (AreCountsOf size) }
 {
     let mut demo = Demo::of(size);
     let mut counts = Counts::none();
     'requests: while let Some(request) = demo.next(alloc)? {
-        serve_one(alloc, request, shards, &mut counts, steps);
+        serve_one(alloc, request, site, &mut counts, steps);
     }
     Ok(counts)
 }
@@ -78,15 +78,14 @@ fn serve_all<L: Ledger>(
 fn serve_one<L: Ledger>(
     alloc: Global,
     request: Request,
-    shards: &mut [Shard],
+    site: &mut Site,
     counts: &mut Counts,
     steps: &mut Steps<L>,
 )
-    requires site { IsSite shards.old }
-    requires few { counts.old.requests < 2 ^ 64 - 1 }
-    ensures { (reply : replies.Reply) × Serves (site_states shards.old) request reply (site_states shards.new)
+    requires { counts.old.requests < 2 ^ 64 - 1 }
+    ensures { (reply : replies.Reply) × Serves (site_states site.old.shards) request reply (site_states site.new.shards)
         × ((outcomes : List Outcome) → counts.old ≡ sums_of outcomes → counts.new ≡ sums_of (outcomes ++ outcome_of reply ∷ [])) }
 {
-    let reply = serve(alloc, shards, request, steps);
+    let reply = site.answer(alloc, request, steps);
     counts.count(reply.status, reply_length(&reply));
 }

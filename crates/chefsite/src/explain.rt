@@ -3,15 +3,14 @@
 
 ghost use Rattle.std.specs.Prelude.{◌≡◌, ◌≢◌, IfOk, Err, None};
 ghost use Rattle.outside_core.specs.Failed.{Rose};
-ghost use Rattle.layer_sources.specs.Lines.{Explains};
-ghost use Rattle.layer_sources.specs.Sources.{layers_in};
+ghost use Rattle.attr_merge.specs.Lines.{Explains};
+ghost use Rattle.attr_merge.specs.Sources.{layers_in};
 ghost use Rattle.chefsite.specs.Explaining.{SaysOfFile, HasFileCause, IsBadFile, IsExplainedBy};
 
 use crate::statuses::Status;
+use attr_merge::SourcesFault;
 use doc_tree::{Bytes, Text};
-use layer_sources::SourcesFault;
-use outside_core::{Failed, Sink};
-use outside_disk::{Disk, DiskFault};
+use outside_core::{Disk, DiskFault, Failed, Sink};
 use std::alloc::Global;
 
 /// Why there are no lines to print.
@@ -72,7 +71,7 @@ fn lines_in(alloc: Global, bytes: &Bytes) -> Result<Bytes, NoLines>
     ensures bad_file { result ≡ Err NoLines.BadFile → layers_in bytes.now ≡ None }
     ensures read { result ≢ Err NoLines.ReadFault }
 {
-    match layer_sources::explain(alloc, bytes.as_slice()) {
+    match attr_merge::explain(alloc, bytes.as_slice()) {
         Ok(lines) => Ok(lines),
         Err(SourcesFault::NotSources) => Err(NoLines::BadFile),
         Err(SourcesFault::NoMemory) => Err(NoLines::NoMemory),

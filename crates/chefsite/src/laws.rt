@@ -7,7 +7,7 @@ ghost use Rattle.org_core.specs.Outcomes.{with_search};
 ghost use Rattle.org_machine.specs.Alone.{Alone, Exchange, States, asked_in, own};
 ghost use Rattle.search_routes.specs.Finding.{found, search_done, searched};
 ghost use Rattle.search_routes.specs.declared.operations.Search.{Search};
-ghost use Rattle.site_shards.specs.Indexing.{no_looks};
+ghost use Rattle.shard_core.specs.Indexing.{no_looks};
 ghost use Rattle.chefsite.specs.Isolation.{bytes_to};
 
 /// Two streams of exchanges that agree on one organisation's own requests, on what befell them and

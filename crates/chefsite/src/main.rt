@@ -4,11 +4,11 @@
 #![tactic(auto)]
 
 mod answer;
-mod answering;
 mod demo;
 mod explain;
 mod laws;
 mod notes;
+mod site;
 mod statuses;
 
 ghost use Rattle.std.specs.Prelude.{◌≡◌, ◌<◌, ℕ, List, [], Some, IfErr, IfOk, IsErr, drop, map, string_bytes};
@@ -27,8 +27,7 @@ use doc_tree::{NoMemory, Steps, Text};
 use explain::explain;
 pub use laws::two_worlds;
 use notes::note;
-use outside_core::{Reading, Sink, Source, Writing};
-use outside_disk::{Disk, FileDisk};
+use outside_core::{Disk, FileDisk, Reading, Sink, Source, Writing};
 use statuses::Status;
 use std::alloc::Global;
 use std::env::Args;

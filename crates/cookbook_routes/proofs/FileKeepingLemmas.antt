@@ -1,62 +1,40 @@
 -- What is done to cookbooks, sandboxes and files keeps the conditions of files: what a version names is there.
-use Rattle.std.proofs.Common.{◌≡◌, Bool, true, false, not, ◌&&◌, cond, List, ℕ, [], ◌∷◌, length, Option, Some, None, refl, sym, ap, ◌∙◌, Result, Ok, Err}
-use Rattle.access_lists.proofs.TextSetLemmas.{lists-in_order}
-use Rattle.access_lists.specs.TextSets.{in_order}
+use Rattle.std.proofs.Common.{◌≡◌, true, false, not, ◌&&◌, cond, List, ℕ, [], ◌∷◌, Option, Some, None, refl, sym, ◌∙◌, Result, Ok, Err}
+use Rattle.membership.proofs.TextSetLemmas.{lists-in_order}
+use Rattle.membership.specs.TextSets.{in_order}
 use Rattle.access_lists.specs.declared.starting.Container.TheVariants as container
-use Rattle.cookbook_editions.proofs.FreezeLemmas.{parts_frozen}
-use Rattle.cookbook_editions.specs.Universes.{universe_of}
+use Rattle.org_shelves.proofs.FrozenLemmas.{parts_frozen}
+use Rattle.org_shelves.specs.Universes.{universe_of}
 use Rattle.dep_solver.specs.declared.roots.Pin.{Pin}
-use Rattle.cookbook_editions.specs.Editions.{is_frozen, names_sum, needs_in, sums_in}
-use Rattle.cookbook_editions.specs.Frozen.{freeze}
+use Rattle.org_shelves.specs.Editions.{is_frozen, names_sum, needs_in, sums_in}
+use Rattle.org_shelves.specs.Frozen.{freeze}
 use Rattle.doc_tree.specs.Doc.{Doc, null, boolean, whole, words, list, dict}
 use Rattle.doc_tree.specs.declared.kind.Kind.TheVariants as kinds
 use Rattle.object_store.specs.Objects.{key}
-use Rattle.sandboxes.specs.Sandboxes.{Holding}
-use Rattle.sandboxes.specs.Sums.{Sums, lists}
+use Rattle.sandboxes.specs.Sums.{Sums}
 use Rattle.shelves.specs.Shelves.{has_shelf}
-use Rattle.org_core.proofs.FileConditionsLemmas.{moves_keep_files, put_keeps_files}
-use Rattle.org_shelves.proofs.DroppedLemmas.{lists_filtered}
-use Rattle.org_shelves.specs.Files.{is_committed}
+use Rattle.org_core.proofs.FileConditionsLemmas.{list_puts_none, moves_keep_files, put_keeps_files}
+use Rattle.org_core.proofs.ManifestsLemmas.{named_there, none_told, second_none}
 use Rattle.org_core.specs.Contexts.{Context}
 use Rattle.org_core.specs.Creating.{created_list}
-use Rattle.org_core.specs.FileMoves.{takes_shelf_room, shelved_by}
+use Rattle.org_core.specs.FileMoves.{takes_shelf_room}
 use Rattle.org_core.specs.FullStates.{MeetsFileConditions}
 use Rattle.org_core.specs.Keeping.{KeepsFileConditions, LeadsToFileConditions, full_of}
-use Rattle.org_core.specs.Refusals.{first_some, refuses}
+use Rattle.org_core.specs.Manifests.{missing_sums, missing_told}
 use Rattle.org_core.specs.States.{cookbooks_of, object_in}
 use Rattle.org_shelves.specs.declared.shelf_moves.ShelfMove.TheVariants as shelf
 use Rattle.org_core.specs.declared.file_moves.FileMove.TheVariants as files
-use Rattle.org_core.specs.declared.moves.Move.{Move}
 use Rattle.org_core.specs.declared.moves.Move.TheVariants.{OnShelves, OnFiles, PutList, TakeList}
-use Rattle.org_core.specs.declared.refusals.Refusal.{Refusal}
-use Rattle.org_core.specs.declared.refusals.Refusal.TheVariants.{Frozen}
+use Rattle.org_requests.specs.declared.refusals.Refusal.{Refusal}
+use Rattle.org_requests.specs.declared.refusals.Refusal.TheVariants.{Frozen}
 use Rattle.cookbook_routes.specs.declared.operations.CookbookOperation.{CookbookOperation}
 use Rattle.cookbook_routes.specs.declared.operations.CookbookOperation.TheVariants as operation
 use Rattle.cookbook_routes.specs.CookbookRules.{cookbook_does, cookbook_refusal, cookbook_rules}
-use Rattle.cookbook_routes.specs.Sandboxes.{begun_if, id_of_next, missing_told}
+use Rattle.cookbook_routes.specs.Sandboxes.{begun_if, id_of_next}
 use Rattle.cookbook_routes.specs.Solving.{chosen, rules_of, solved_as}
-use Rattle.cookbook_routes.specs.Versions.{is_frozen_found, keeps_others, missing_sums, stored_at, stored_over}
+use Rattle.cookbook_routes.specs.Versions.{is_frozen_found, keeps_others, stored_at, stored_over}
 
 -- ---- a version is put where no file is missing
-
-pub none_told : (sums : Sums) → missing_told sums ≡ None → sums ≡ []
-none_told [] is = refl
-none_told (sum ∷ sums) is = cc
-
-second_none : (frozen : Bool) (missing : Option Refusal) → first_some (refuses Frozen frozen ∷ missing ∷ []) ≡ None → missing ≡ None
-second_none true missing is = cc
-second_none false None is = refl
-second_none false (Some refusal) is = cc
-
-there_if : (among committed : Bool) → among ≡ true → (among && not committed) ≡ false → committed ≡ true
-there_if true true is none = refl
-there_if true false is none = cc
-there_if false committed is none = cc
-
-pub named_there : (files : Holding) (manifest : Doc) → missing_sums files manifest ≡ [] → (sum : List ℕ) → names_sum manifest sum ≡ true → is_committed files sum ≡ true
-named_there files manifest none sum names =
-    there_if (lists (in_order (sums_in manifest)) sum) (is_committed files sum) (lists-in_order (sums_in manifest) sum ∙ names)
-    (sym (lists_filtered (λ s. not (is_committed files s)) (in_order (sums_in manifest)) sum) ∙ ap (λ (sums : Sums). lists sums sum) none)
 
 -- what is frozen names the same files
 names_frozen : (manifest : Doc) (sum : List ℕ) → names_sum (freeze manifest) sum ≡ names_sum manifest sum
@@ -76,10 +54,6 @@ same_names found manifest sum =
     ]
 
 -- ---- whatever is done
-
-list_puts_none : (b : Bool) (one : Move) → takes_shelf_room one ≡ false → shelved_by (cond b [] (one ∷ [])) ≡ 0
-list_puts_none true one none = refl
-list_puts_none false one none = ap (λ (b : Bool). length (cond b (one ∷ []) [])) none
 
 begun_keeps_files : (context : Context) (sums : Sums) (id : Option (List ℕ)) → MeetsFileConditions (full_of context) → LeadsToFileConditions context (begun_if context sums id)
 unfolding takes_shelf_room
@@ -102,7 +76,7 @@ does_keep_files context (operation.ShowVersion name wanted) meets free = meets
 does_keep_files context (operation.PutVersion name version manifest forced) meets free =
     let found : Option Doc = stored_at context name version in
     let none : missing_sums context.files manifest ≡ [] =
-    none_told (missing_sums context.files manifest) (second_none (is_frozen_found found && not forced) (missing_told (missing_sums context.files manifest)) free) in
+    none_told (missing_sums context.files manifest) (second_none Frozen (is_frozen_found found && not forced) (missing_told (missing_sums context.files manifest)) free) in
     put_keeps_files context.org (OnShelves (shelf.PutVersion name version (stored_over found manifest)))
     (cond (has_shelf (cookbooks_of context.state) name) [] (PutList (key kinds.Cookbook name) (created_list container.Cookbooks context) ∷ [])) (full_of context)
     (list_puts_none (has_shelf (cookbooks_of context.state) name) (PutList (key kinds.Cookbook name) (created_list container.Cookbooks context)) refl)

@@ -2,9 +2,9 @@
 use Rattle.std.proofs.Common.{◌≡◌, Bool, true, false, not, ◌&&◌, cond, List, ℕ, [], ◌∷◌, Option, Some, None, is_some, refl, Result, Ok, Err}
 use Rattle.access_lists.specs.declared.acl.Acl.{Acl}
 use Rattle.access_lists.specs.declared.starting.Container.TheVariants as container
-use Rattle.cookbook_editions.proofs.FreezeLemmas.{frozen_stays}
-use Rattle.cookbook_editions.specs.Frozen.{freeze}
-use Rattle.cookbook_editions.specs.Universes.{universe_of}
+use Rattle.org_shelves.proofs.FrozenLemmas.{frozen_stays}
+use Rattle.org_shelves.specs.Frozen.{freeze}
+use Rattle.org_shelves.specs.Universes.{universe_of}
 use Rattle.dep_solver.specs.declared.roots.Pin.{Pin}
 use Rattle.dep_solver.proofs.VersionLemmas.{versions_total}
 use Rattle.doc_tree.specs.Doc.{Doc}
@@ -31,7 +31,7 @@ use Rattle.org_core.specs.Keeping.{KeepsConditions, LeadsToConditions, Someone}
 use Rattle.org_core.specs.Moves.{after_moves}
 use Rattle.org_core.specs.Needs.{is_known}
 use Rattle.org_core.specs.States.{Organisation, State, cookbooks_of, object_in}
-use Rattle.org_core.specs.declared.refusals.Refusal.{Refusal}
+use Rattle.org_requests.specs.declared.refusals.Refusal.{Refusal}
 use Rattle.cookbook_routes.proofs.ReadLemmas.{WasRead, was_read}
 use Rattle.cookbook_routes.specs.declared.operations.CookbookOperation.{CookbookOperation}
 use Rattle.cookbook_routes.specs.declared.operations.CookbookOperation.TheVariants as operation
@@ -134,4 +134,4 @@ does_keep context (operation.SolveVersions environment roots) meets known read f
     solved_keeps context (chosen (universe_of (cookbooks_of context.state)) (rules_of (object_in context.state kinds.Environment environment)) roots) meets
 
 pub cookbooks_keep : KeepsConditions Someone cookbook_rules
-cookbooks_keep context route request asked meets known is found free = does_keep context asked meets known (was_read route request.verb request.asked request.body asked is) found
+cookbooks_keep context route request asked meets known is found free = does_keep context asked meets known (was_read route request.verb request.parameters request.body asked is) found

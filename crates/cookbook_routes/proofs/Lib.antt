@@ -3,8 +3,8 @@ pub mod KeepingLemmas
 pub mod FileKeepingLemmas
 pub mod OrderlyLemmas
 pub mod PlainLemmas
-pub mod ShelfLemmas
-pub mod MissingLemmas
+pub mod LawfulLemmas
+pub mod LatestLemmas
 pub mod BackwardsLemmas
 pub mod ListingLemmas
 pub mod UniverseLemmas

@@ -4,12 +4,12 @@ use Rattle.std.specs.FinMap as finite
 use Rattle.std.specs.Map.{keys_of}
 use Rattle.std.proofs.lemmas.List.{append-nil, map-append}
 use Rattle.std.proofs.lemmas.Simd.{map-map}
-use Rattle.cookbook_editions.specs.Rising.{keys_rise}
+use Rattle.doc_tree.specs.Text.{text_cmp}
+use Rattle.org_shelves.specs.Rising.{keys_rise}
 use Rattle.doc_tree.specs.Doc.{Doc, dict, pairs_of}
 use Rattle.doc_tree.specs.Valid.{InOrder}
-use Rattle.org_core.proofs.ListingLemmas.{InOrder-upto}
+use Rattle.org_requests.proofs.ListingLemmas.{InOrder-upto}
 use Rattle.org_shelves.specs.Shelved.{Cookbooks}
-use Rattle.shelves.specs.Shelves.{text_cmp}
 use Rattle.shelves.specs.SortedMap.{Sorted, map_of}
 use Rattle.version_rules.specs.Order.{version_cmp}
 use Rattle.version_rules.specs.declared.versions.Version.{Version}

@@ -1,7 +1,7 @@
 -- The moves of these routes are orderly: nobody comes by them.
 use Rattle.std.proofs.Common.{◌≡◌, Bool, true, false, cond, Option, Some, None, is_some, List, [], ◌∷◌, ℕ, length, refl, ap, Result, Ok, Err}
 use Rattle.access_lists.specs.declared.starting.Container.TheVariants as container
-use Rattle.cookbook_editions.specs.Universes.{universe_of}
+use Rattle.org_shelves.specs.Universes.{universe_of}
 use Rattle.dep_solver.specs.declared.roots.Pin.{Pin}
 use Rattle.doc_tree.specs.declared.kind.Kind.TheVariants as kinds
 use Rattle.object_store.specs.Objects.{key}
@@ -14,7 +14,7 @@ use Rattle.org_core.specs.Moves.{arrivals, group_joined}
 use Rattle.org_core.specs.States.{cookbooks_of, object_in}
 use Rattle.org_core.specs.declared.moves.Move.{Move}
 use Rattle.org_core.specs.declared.moves.Move.TheVariants.{PutList, TakeList}
-use Rattle.org_core.specs.declared.refusals.Refusal.{Refusal}
+use Rattle.org_requests.specs.declared.refusals.Refusal.{Refusal}
 use Rattle.cookbook_routes.specs.declared.operations.CookbookOperation.TheVariants as operation
 use Rattle.cookbook_routes.specs.CookbookRules.{cookbook_rules}
 use Rattle.cookbook_routes.specs.Sandboxes.{id_of_next, begun_if}

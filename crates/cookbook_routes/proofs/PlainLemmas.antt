@@ -1,6 +1,6 @@
 -- These routes refuse for want of a permission by their needs alone.
 use Rattle.std.proofs.Common.{Bool, true, false, not, ◌&&◌, List, [], ◌∷◌, ℕ, bytes_eq, codes, IfSome, Option, Some, None, option_and_then, Result, Ok, Err}
-use Rattle.cookbook_editions.specs.Universes.{universe_of}
+use Rattle.org_shelves.specs.Universes.{universe_of}
 use Rattle.dep_solver.specs.Chosen.{best_of}
 use Rattle.dep_solver.specs.declared.roots.Pin.{Pin}
 use Rattle.dep_solver.specs.declared.roots.Roots.{Roots}
@@ -8,29 +8,30 @@ use Rattle.dep_solver.specs.declared.rules.EnvRules.{EnvRules}
 use Rattle.dep_solver.specs.declared.universe.Universe.{Universe as Versions}
 use Rattle.doc_tree.specs.Doc.{Doc}
 use Rattle.doc_tree.specs.declared.kind.Kind.TheVariants as kinds
-use Rattle.run_list.specs.Stored.{Stored}
-use Rattle.run_list_roots.specs.Reading.{recipes_of}
+use Rattle.run_lists.specs.Stored.{Stored}
+use Rattle.run_lists.specs.Reading.{recipes_of}
 use Rattle.doc_tree.specs.Name.{is_name}
 use Rattle.doc_tree.specs.Part.{part_at}
-use Rattle.cookbook_editions.specs.Kept.{stored_from}
+use Rattle.org_shelves.specs.StoredManifests.{stored_from}
 use Rattle.cookbook_meta.specs.declared.fault.MetaFault.{MetaFault}
 use Rattle.version_rules.specs.declared.versions.Version.{Version as VersionNumber}
-use Rattle.route_table.specs.declared.verbs.Verb.{Verb}
-use Rattle.route_table.specs.declared.verbs.Verb.TheVariants.{Get, Post, Put, Delete, Other}
+use Rattle.org_requests.specs.declared.verbs.Verb.{Verb}
+use Rattle.org_requests.specs.declared.verbs.Verb.TheVariants.{Get, Post, Put, Delete, Other}
 use Rattle.sandboxes.specs.Checksums.{checksum_in, checksum_of}
 use Rattle.sandboxes.specs.Sandboxes.{missing, sums_of}
 use Rattle.sandboxes.specs.Sums.{Sums}
 use Rattle.org_core.proofs.PlainLemmas.{document_plain, refuses_plain}
-use Rattle.org_core.specs.declared.refusals.Refusal.{Refusal}
-use Rattle.org_core.specs.declared.refusals.Refusal.TheVariants.{BadField, DigestDiffers, Frozen}
-use Rattle.org_core.specs.declared.requests.Body.{Body}
-use Rattle.org_core.specs.declared.requests.Body.TheVariants.{Empty, Doc as Read, Bad, Raw, TooLong}
-use Rattle.org_core.specs.declared.routes.CookbookRoute.{CookbookRoute}
-use Rattle.org_core.specs.declared.routes.CookbookRoute.TheVariants.{Sandboxes, Sandbox, File, Cookbooks, Cookbook, Version, Universe, SolvedVersions}
-use Rattle.org_core.specs.Bodies.{absent, document_in}
-use Rattle.org_core.specs.Parameters.{asked_for}
-use Rattle.org_core.specs.Refusals.{first_some, refuses}
-use Rattle.org_core.specs.declared.requests.Parameter.{Parameter}
+use Rattle.org_requests.specs.declared.refusals.Refusal.{Refusal}
+use Rattle.org_requests.specs.declared.refusals.Refusal.TheVariants.{BadField, DigestDiffers, Frozen}
+use Rattle.org_requests.specs.declared.requests.Body.{Body}
+use Rattle.org_requests.specs.declared.requests.Body.TheVariants.{Empty, Doc as Read, Bad, Raw, TooLong}
+use Rattle.org_requests.specs.Routes.{CookbookRoute}
+use Rattle.org_requests.specs.declared.routes.CookbookRouteOf.TheVariants.{Sandboxes, Sandbox, File, Cookbooks, Cookbook, Version, Universe, SolvedVersions}
+use Rattle.org_requests.specs.Documents.{absent, document_in}
+use Rattle.org_requests.specs.Parameters.{asked_for}
+use Rattle.org_core.specs.Manifests.{missing_sums, missing_told, or_bad_manifest}
+use Rattle.org_requests.specs.Refusals.{first_some, refuses}
+use Rattle.org_requests.specs.declared.requests.Parameter.{Parameter}
 use Rattle.org_core.specs.Contexts.{Context}
 use Rattle.org_core.specs.States.{cookbooks_of, object_in}
 use Rattle.org_core.specs.Plain.{IsPlain, RefusesPlainly, NeverForbids}
@@ -42,8 +43,8 @@ use Rattle.cookbook_routes.specs.CookbookRules.{beginning, committing, uploading
 use Rattle.cookbook_routes.specs.Files.{file_in}
 use Rattle.cookbook_routes.specs.Listings.{count_given, count_or_bad}
 use Rattle.cookbook_routes.specs.Solving.{best_or_none, or_bad_run_list, roots_asked, rules_of, solved_as}
-use Rattle.cookbook_routes.specs.Versions.{is_forced, is_frozen_found, manifest_said, missing_sums, or_bad_manifest, stored_at, version_in, wanted_in}
-use Rattle.cookbook_routes.specs.Sandboxes.{sums_at, or_bad_checksums, sums_in, is_true_part, completion_refusal, missing_told, id_of_next, begun_if}
+use Rattle.cookbook_routes.specs.Versions.{is_forced, is_frozen_found, manifest_said, stored_at, version_in, wanted_in}
+use Rattle.cookbook_routes.specs.Sandboxes.{sums_at, or_bad_checksums, sums_in, is_true_part, completion_refusal, id_of_next, begun_if}
 
 or_bad_plain : (found : Option Sums) → RefusesPlainly (or_bad_checksums found)
 or_bad_plain None = tt
@@ -226,7 +227,7 @@ does_plain context (operation.SolveVersions environment roots) =
 
 pub cookbooks_never_forbid : NeverForbids cookbook_rules
 cookbooks_never_forbid = record {
-  operation = λ context route request. asked_plain route request.verb request.asked request.body;
+  operation = λ context route request. asked_plain route request.verb request.parameters request.body;
   own_refusal = refusal_plain;
   does = does_plain;
 }

@@ -1,7 +1,7 @@
 -- What is read of a PUT of a cookbook version: a name and a manifest of their forms.
 use Rattle.std.proofs.Common.{◌≡◌, ℕ, Bool, true, false, List, Option, Some, None, Result, Ok, Err, refl, sym, ap, subst, ◌∙◌}
 use Rattle.std.proofs.lemmas.Option.{same_Some}
-use Rattle.cookbook_editions.specs.Kept.{IsStored, stored_from}
+use Rattle.org_shelves.specs.StoredManifests.{IsStored, stored_from}
 use Rattle.cookbook_meta.proofs.ReadBackLemmas.{manifests_again}
 use Rattle.cookbook_meta.specs.Faults.{then_do}
 use Rattle.cookbook_meta.specs.Manifests.{manifest_from}
@@ -11,8 +11,8 @@ use Rattle.dep_solver.specs.declared.roots.Roots.{Roots}
 use Rattle.doc_tree.specs.Doc.{Doc}
 use Rattle.doc_tree.specs.Name.{is_name}
 use Rattle.doc_tree.specs.Tree.{doc_of}
-use Rattle.route_table.specs.declared.verbs.Verb.{Verb}
-use Rattle.route_table.specs.declared.verbs.Verb.TheVariants.{Get, Post, Put, Delete, Other}
+use Rattle.org_requests.specs.declared.verbs.Verb.{Verb}
+use Rattle.org_requests.specs.declared.verbs.Verb.TheVariants.{Get, Post, Put, Delete, Other}
 use Rattle.sandboxes.specs.Checksums.{checksum_in}
 use Rattle.sandboxes.specs.Sums.{Sums}
 use Rattle.version_rules.proofs.FitLemmas.{fits_read}
@@ -21,13 +21,14 @@ use Rattle.version_rules.specs.Laws.{FitsVersion}
 use Rattle.version_rules.specs.Versions.{reads_version}
 use Rattle.version_rules.specs.declared.fault.VersionFault.{VersionFault}
 use Rattle.version_rules.specs.declared.versions.Version.{Version as VersionNumber}
-use Rattle.org_core.specs.Bodies.{document_in}
+use Rattle.org_core.proofs.ManifestsLemmas.{said_ok}
+use Rattle.org_requests.specs.Documents.{document_in}
 use Rattle.org_shelves.specs.Conditions.{IsVersionOf}
-use Rattle.org_core.specs.declared.refusals.Refusal.{Refusal}
-use Rattle.org_core.specs.declared.requests.Body.{Body}
-use Rattle.org_core.specs.declared.requests.Parameter.{Parameter}
-use Rattle.org_core.specs.declared.routes.CookbookRoute.{CookbookRoute}
-use Rattle.org_core.specs.declared.routes.CookbookRoute.TheVariants.{Sandboxes, Sandbox, File, Cookbooks, Cookbook, Version, Universe, SolvedVersions}
+use Rattle.org_requests.specs.declared.refusals.Refusal.{Refusal}
+use Rattle.org_requests.specs.declared.requests.Body.{Body}
+use Rattle.org_requests.specs.declared.requests.Parameter.{Parameter}
+use Rattle.org_requests.specs.Routes.{CookbookRoute}
+use Rattle.org_requests.specs.declared.routes.CookbookRouteOf.TheVariants.{Sandboxes, Sandbox, File, Cookbooks, Cookbook, Version, Universe, SolvedVersions}
 use Rattle.cookbook_routes.specs.declared.operations.CookbookOperation.{CookbookOperation}
 use Rattle.cookbook_routes.specs.declared.operations.CookbookOperation.TheVariants as operation
 use Rattle.cookbook_routes.specs.declared.operations.Count.{Count}
@@ -37,7 +38,7 @@ use Rattle.cookbook_routes.specs.Files.{file_in}
 use Rattle.cookbook_routes.specs.Listings.{count_asked}
 use Rattle.cookbook_routes.specs.Sandboxes.{completion_refusal, sums_in}
 use Rattle.cookbook_routes.specs.Solving.{roots_asked}
-use Rattle.cookbook_routes.specs.Versions.{is_forced, manifest_said, or_bad_manifest, version_in, version_read, wanted_in}
+use Rattle.cookbook_routes.specs.Versions.{is_forced, manifest_said, version_in, version_read, wanted_in}
 
 -- what a version in the path was read as
 fits_in : (read : Result VersionNumber VersionFault) (version : VersionNumber) → version_read read ≡ Some version → read ≡ Ok version
@@ -114,10 +115,6 @@ putting_read : (name : List ℕ) (version : VersionNumber) (forced : Bool) (said
     → AskedRead (putting name version forced said)
 putting_read name version forced (Ok manifest) is = is manifest refl
 putting_read name version forced (Err refusal) is = tt
-
-said_ok : (read : Result Doc MetaFault) (manifest : Doc) → or_bad_manifest read ≡ Ok manifest → read ≡ Ok manifest
-said_ok (Ok other) manifest is = cc is
-said_ok (Err fault) manifest is = cc
 
 said_read : (name : List ℕ) (version : VersionNumber) (document : Result Doc Refusal) (manifest : Doc) → FitsVersion version → manifest_said name version document ≡ Ok manifest → IsStored name version manifest
 said_read name version (Ok doc) manifest fits is = given name version doc manifest (manifest_from name version doc) fits refl (said_ok (stored_from name version doc) manifest is)

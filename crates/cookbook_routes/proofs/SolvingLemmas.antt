@@ -2,17 +2,17 @@
 use Rattle.std.proofs.Common.{◌≡◌, ◌+◌, ◌≤◌, ℕ, List, Result, Ok, Err, sym, ap, subst, ◌∙◌, arith}
 use Rattle.dep_solver.specs.declared.roots.Pin.{Pin}
 use Rattle.org_core.specs.Contexts.{Context}
-use Rattle.org_core.specs.Outcomes.{Finds, Looked}
-use Rattle.org_core.specs.Refusals.{Tells}
-use Rattle.org_core.specs.declared.groups.Prepared.{Prepared}
-use Rattle.org_core.specs.declared.refusals.Refusal.{Refusal}
-use Rattle.org_core.specs.declared.refusals.Stop.{Stop}
-use Rattle.org_core.specs.declared.refusals.Stop.TheVariants.{Refused, NoMemory}
+use Rattle.org_core.specs.Outcomes.{IsAsDecided, Looked}
+use Rattle.org_requests.specs.Refusals.{Tells}
+use Rattle.org_core.specs.declared.rules.Prepared.{Prepared}
+use Rattle.org_requests.specs.declared.refusals.Refusal.{Refusal}
+use Rattle.org_requests.specs.declared.refusals.Stop.{Stop}
+use Rattle.org_requests.specs.declared.refusals.Stop.TheVariants.{Refused, NoMemory}
 use Rattle.cookbook_routes.specs.Solving.{solved_as}
 
 -- ---- none are chosen
 
-pub stopped_done : (context : Context) (stop : Stop) (due : Result (List Pin) Refusal) → Tells {T = List Pin} (Err stop) due → Finds (Err stop) (solved_as context due).answer
+pub stopped_done : (context : Context) (stop : Stop) (due : Result (List Pin) Refusal) → Tells {T = List Pin} (Err stop) due → IsAsDecided (Err stop) (solved_as context due).answer
 stopped_done context NoMemory due told = tt
 stopped_done context (Refused refusal) due told = ap (λ d. (solved_as context d).answer) told
 
@@ -28,8 +28,8 @@ stopped_looked context (Refused refusal) due before now told one = one ∙ ap (�
 
 -- ---- some are
 
-pub shown_done : (context : Context) (result : Result Prepared Stop) (pins : List Pin) (due : Result (List Pin) Refusal) → due ≡ Ok pins → Finds result (solved_as context (Ok pins)).answer → Finds result (solved_as context due).answer
-shown_done context result pins due chosen shown = subst (λ d. Finds result (solved_as context d).answer) (sym chosen) shown
+pub shown_done : (context : Context) (result : Result Prepared Stop) (pins : List Pin) (due : Result (List Pin) Refusal) → due ≡ Ok pins → IsAsDecided result (solved_as context (Ok pins)).answer → IsAsDecided result (solved_as context due).answer
+shown_done context result pins due chosen shown = subst (λ d. IsAsDecided result (solved_as context d).answer) (sym chosen) shown
 
 looked_later : (result : Result Prepared Stop) (n before between now : ℕ) → between ≡ before + 1 → Looked result n between now → Looked result (1 + n) before now
 looked_later (Ok prepared) n before between now one looked = omega arith

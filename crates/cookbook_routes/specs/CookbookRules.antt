@@ -7,14 +7,14 @@ use Rattle.doc_tree.specs.Doc.{Doc}
 use Rattle.doc_tree.specs.Name.{is_name}
 use Rattle.doc_tree.specs.declared.kind.Kind.TheVariants as kinds
 use Rattle.object_store.specs.Objects.{key}
-use Rattle.route_table.specs.declared.verbs.Verb.{Verb}
-use Rattle.route_table.specs.declared.verbs.Verb.TheVariants.{Get, Post, Put, Delete, Other}
+use Rattle.org_requests.specs.declared.verbs.Verb.{Verb}
+use Rattle.org_requests.specs.declared.verbs.Verb.TheVariants.{Get, Post, Put, Delete, Other}
 use Rattle.sandboxes.specs.Checksums.{checksum_in}
 use Rattle.sandboxes.specs.Sandboxes.{awaits}
 use Rattle.sandboxes.specs.Sums.{Sums}
 use Rattle.shelves.specs.Shelves.{has_shelf}
 use Rattle.version_rules.specs.declared.versions.Version.{Version as VersionNumber}
-use Rattle.org_core.specs.Bodies.{absent, document_in}
+use Rattle.org_requests.specs.Documents.{absent, document_in}
 use Rattle.org_core.specs.Contexts.{Context}
 use Rattle.org_shelves.specs.Files.{is_committed}
 use Rattle.org_core.specs.Outcomes.{Decided}
@@ -22,12 +22,12 @@ use Rattle.org_core.specs.Rules.{Rules}
 use Rattle.org_core.specs.States.{cookbooks_of, has_object}
 use Rattle.org_core.specs.declared.needs.Need.{Need}
 use Rattle.org_core.specs.declared.needs.Need.TheVariants.{Listed}
-use Rattle.org_core.specs.declared.refusals.Refusal.{Refusal}
-use Rattle.org_core.specs.declared.refusals.Refusal.TheVariants.{NotFound, NotAllowed}
-use Rattle.org_core.specs.declared.requests.Body.{Body}
-use Rattle.org_core.specs.declared.requests.Parameter.{Parameter}
-use Rattle.org_core.specs.declared.routes.CookbookRoute.{CookbookRoute}
-use Rattle.org_core.specs.declared.routes.CookbookRoute.TheVariants.{Sandboxes, Sandbox, File, Cookbooks, Cookbook, Version, Universe, SolvedVersions}
+use Rattle.org_requests.specs.declared.refusals.Refusal.{Refusal}
+use Rattle.org_requests.specs.declared.refusals.Refusal.TheVariants.{NotFound, NotAllowed}
+use Rattle.org_requests.specs.declared.requests.Body.{Body}
+use Rattle.org_requests.specs.declared.requests.Parameter.{Parameter}
+use Rattle.org_requests.specs.Routes.{CookbookRoute}
+use Rattle.org_requests.specs.declared.routes.CookbookRouteOf.TheVariants.{Sandboxes, Sandbox, File, Cookbooks, Cookbook, Version, Universe, SolvedVersions}
 use Rattle.cookbook_routes.specs.declared.operations.CookbookOperation.{CookbookOperation}
 use Rattle.cookbook_routes.specs.declared.operations.CookbookOperation.TheVariants as operation
 use Rattle.cookbook_routes.specs.declared.operations.Count.{Count}
@@ -264,7 +264,7 @@ cookbook_does context (operation.SolveVersions environment roots) = versions_sol
 -- the rules of these routes
 abbrev pub cookbook_rules : Rules CookbookRoute CookbookOperation
 cookbook_rules = record {
-  operation = λ context route request. cookbook_asked route request.verb request.asked request.body;
+  operation = λ context route request. cookbook_asked route request.verb request.parameters request.body;
   lacks = cookbook_lacks;
   needs = cookbook_needs;
   own_refusal = cookbook_refusal;

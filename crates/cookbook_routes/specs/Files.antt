@@ -6,13 +6,13 @@ use Rattle.sandboxes.specs.Checksums.{checksum_of}
 use Rattle.sandboxes.specs.declared.stored.Stored.{Stored}
 use Rattle.org_core.specs.Contexts.{Context}
 use Rattle.org_core.specs.Outcomes.{Decided, shows, gives, tells, does_by}
-use Rattle.org_core.specs.Refusals.{refuses}
+use Rattle.org_requests.specs.Refusals.{refuses}
 use Rattle.org_core.specs.declared.file_moves.FileMove.TheVariants as files
 use Rattle.org_core.specs.declared.moves.Move.TheVariants as move
-use Rattle.org_core.specs.declared.refusals.Refusal.{Refusal}
-use Rattle.org_core.specs.declared.refusals.Refusal.TheVariants.{NotJson, TooLarge, DigestDiffers}
-use Rattle.org_core.specs.declared.requests.Body.{Body}
-use Rattle.org_core.specs.declared.requests.Body.TheVariants.{Empty, Doc as Read, Bad, Raw, TooLong}
+use Rattle.org_requests.specs.declared.refusals.Refusal.{Refusal}
+use Rattle.org_requests.specs.declared.refusals.Refusal.TheVariants.{NotJson, TooLarge, DigestDiffers}
+use Rattle.org_requests.specs.declared.requests.Body.{Body}
+use Rattle.org_requests.specs.declared.requests.Body.TheVariants.{Empty, Doc as Read, Bad, Raw, TooLong}
 
 -- the file that a body is: no body is the empty file, and one that was read as JSON is none
 abbrev pub file_in : Body → Result (List ℕ) Refusal

@@ -7,13 +7,13 @@ use Rattle.version_rules.specs.Order.{version_cmp}
 use Rattle.version_rules.specs.Versions.{version_text}
 use Rattle.version_rules.specs.declared.versions.Version.{Version}
 use Rattle.org_core.specs.Outcomes.{Decided, shows, tells}
-use Rattle.org_core.specs.Parameters.{asked_for, largest, number_in, or_bad_parameter}
-use Rattle.org_core.specs.Replies.{one_key, org_uri}
+use Rattle.org_requests.specs.Parameters.{asked_for, largest, number_in, or_bad_parameter}
+use Rattle.org_requests.specs.Replies.{one_key, org_uri}
 use Rattle.org_shelves.specs.Shelved.{Cookbooks}
 use Rattle.org_core.specs.States.{cookbooks_of}
 use Rattle.org_core.specs.Contexts.{Context}
-use Rattle.org_core.specs.declared.refusals.Refusal.{Refusal}
-use Rattle.org_core.specs.declared.requests.Parameter.{Parameter}
+use Rattle.org_requests.specs.declared.refusals.Refusal.{Refusal}
+use Rattle.org_requests.specs.declared.requests.Parameter.{Parameter}
 use Rattle.cookbook_routes.specs.declared.operations.Count.{Count}
 use Rattle.cookbook_routes.specs.declared.operations.Count.TheVariants.{All, Most}
 

@@ -9,13 +9,14 @@ use Rattle.sandboxes.specs.Sandboxes.{Holding, is_at_end, missing, next_id, sums
 use Rattle.sandboxes.specs.Sums.{Sums}
 use Rattle.org_core.specs.Contexts.{Context}
 use Rattle.org_shelves.specs.Files.{is_committed}
+use Rattle.org_core.specs.Manifests.{missing_told}
 use Rattle.org_core.specs.Outcomes.{Decided, makes, shows, does_by, refuse}
-use Rattle.org_core.specs.Refusals.{refuses}
-use Rattle.org_core.specs.Replies.{org_uri}
+use Rattle.org_requests.specs.Refusals.{refuses}
+use Rattle.org_requests.specs.Replies.{org_uri}
 use Rattle.org_core.specs.declared.file_moves.FileMove.TheVariants as files
 use Rattle.org_core.specs.declared.moves.Move.TheVariants as move
-use Rattle.org_core.specs.declared.refusals.Refusal.{Refusal}
-use Rattle.org_core.specs.declared.refusals.Refusal.TheVariants.{BadField, MissingChecksums, SandboxesAtEnd}
+use Rattle.org_requests.specs.declared.refusals.Refusal.{Refusal}
+use Rattle.org_requests.specs.declared.refusals.Refusal.TheVariants.{BadField, SandboxesAtEnd}
 
 -- the path of the sandbox of this id
 abbrev pub sandbox_path : List ℕ → List ℕ → List ℕ
@@ -117,11 +118,6 @@ committed_doc id sums =
 -- a sandbox is committed: 200 with its checksums
 abbrev pub sandbox_committed : Context → List ℕ → Decided
 sandbox_committed context id = does_by (shows (committed_doc id (sums_doc (sums_of context.files id)))) (move.OnFiles (files.Commit id) ∷ []) 0
-
--- 400 where some of these are missing
-abbrev pub missing_told : Sums → Option Refusal
-missing_told [] = None
-missing_told (sum ∷ sums) = Some (MissingChecksums (sum ∷ sums))
 
 -- files of a sandbox are missing
 abbrev pub missing_refusal : Holding → List ℕ → Option Refusal

@@ -1,7 +1,7 @@
 -- The route of the versions for a run list: the best set of cookbook versions, or that there is none.
 use Rattle.std.specs.Prelude.{◌≡◌, ℕ, ◌+◌, List, [], map, length, codes, Option, Some, None, option_and_then, Result, Ok, Err}
-use Rattle.cookbook_editions.specs.Editions.{read_or}
-use Rattle.cookbook_editions.specs.Universes.{universe_of}
+use Rattle.org_shelves.specs.Editions.{read_or}
+use Rattle.org_shelves.specs.Universes.{universe_of}
 use Rattle.cookbook_meta.specs.Metadata.{needs_of}
 use Rattle.cookbook_meta.specs.Stored.{with_pairs}
 use Rattle.dep_solver.specs.Chosen.{best_of, lacking, without_version}
@@ -13,15 +13,16 @@ use Rattle.dep_solver.specs.declared.universe.Universe.{Universe}
 use Rattle.doc_tree.specs.Doc.{Doc, dict, pairs_of}
 use Rattle.doc_tree.specs.Part.{part_at}
 use Rattle.doc_tree.specs.declared.kind.Kind.TheVariants as kinds
-use Rattle.run_list_roots.specs.Reading.{recipes_of}
-use Rattle.run_list_roots.specs.Roots.{roots_in}
-use Rattle.run_list.specs.Stored.{Stored}
+use Rattle.run_lists.specs.Reading.{recipes_of}
+use Rattle.run_lists.specs.Roots.{roots_in}
+use Rattle.run_lists.specs.Stored.{Stored}
 use Rattle.org_core.specs.Contexts.{Context}
+use Rattle.org_core.specs.Manifests.{shown_found}
 use Rattle.org_core.specs.Outcomes.{Decided, shows}
 use Rattle.org_core.specs.States.{cookbooks_of, object_in}
-use Rattle.org_core.specs.declared.refusals.Refusal.{Refusal}
-use Rattle.org_core.specs.declared.refusals.Refusal.TheVariants.{BadField, Unsolvable}
-use Rattle.cookbook_routes.specs.Versions.{shown_found, stored_at}
+use Rattle.org_requests.specs.declared.refusals.Refusal.{Refusal}
+use Rattle.org_requests.specs.declared.refusals.Refusal.TheVariants.{BadField, Unsolvable}
+use Rattle.cookbook_routes.specs.Versions.{stored_at}
 
 -- what the items ask for, or the bad field
 abbrev pub or_bad_run_list : Option (List Stored) → Result Roots Refusal

@@ -1,7 +1,7 @@
 -- The route of the universe: what each version needs, for those who choose versions themselves.
 use Rattle.std.specs.Prelude.{ℕ, ◌+◌, List, [], ◌∷◌, map, codes}
 use Rattle.std.specs.FinMap as finite
-use Rattle.cookbook_editions.specs.Editions.{dependencies_in}
+use Rattle.org_shelves.specs.Editions.{dependencies_in}
 use Rattle.cookbook_meta.specs.Stored.{with_pairs}
 use Rattle.doc_tree.specs.Doc.{Doc, words, dict, pairs_of}
 use Rattle.version_rules.specs.Order.{version_cmp}
@@ -9,7 +9,7 @@ use Rattle.version_rules.specs.Versions.{version_text}
 use Rattle.version_rules.specs.declared.versions.Version.{Version}
 use Rattle.org_core.specs.Contexts.{Context}
 use Rattle.org_core.specs.Outcomes.{Decided, shows, does_by}
-use Rattle.org_core.specs.Replies.{org_uri}
+use Rattle.org_requests.specs.Replies.{org_uri}
 use Rattle.org_shelves.specs.Shelved.{Cookbooks}
 use Rattle.org_core.specs.States.{cookbooks_of}
 

@@ -1,19 +1,15 @@
 -- The routes of cookbook versions.
-use Rattle.std.specs.Prelude.{◌≡◌, ℕ, Bool, false, not, ◌&&◌, cond, List, [], ◌∷◌, ◌++◌, filter, bytes_eq, codes, if◌then◌else◌, Option, Some, None, is_some, option_map, unwrap_or, Result, Ok, Err}
-use Rattle.access_lists.specs.TextSets.{in_order}
+use Rattle.std.specs.Prelude.{ℕ, Bool, false, not, ◌&&◌, cond, List, [], ◌∷◌, bytes_eq, codes, if◌then◌else◌, Option, Some, None, is_some, option_map, Result, Ok, Err}
+use Rattle.membership.specs.TextSets.{in_order}
 use Rattle.access_lists.specs.declared.perm.Perm.TheVariants as permission
 use Rattle.access_lists.specs.declared.starting.Container.TheVariants as container
-use Rattle.cookbook_editions.specs.Editions.{is_frozen, sums_in}
-use Rattle.cookbook_editions.specs.Frozen.{freeze}
-use Rattle.cookbook_editions.specs.Kept.{stored_from}
-use Rattle.cookbook_editions.specs.Shown.{shown_doc}
-use Rattle.cookbook_meta.specs.Faults.{field_of}
-use Rattle.cookbook_meta.specs.declared.fault.MetaFault.{MetaFault}
-use Rattle.doc_tree.specs.Doc.{Doc, null}
+use Rattle.org_shelves.specs.Editions.{is_frozen}
+use Rattle.org_shelves.specs.Frozen.{freeze}
+use Rattle.org_shelves.specs.StoredManifests.{stored_from}
+use Rattle.org_shelves.specs.Showing.{shown_doc}
+use Rattle.doc_tree.specs.Doc.{Doc}
 use Rattle.doc_tree.specs.declared.kind.Kind.TheVariants as kinds
 use Rattle.object_store.specs.Objects.{key}
-use Rattle.sandboxes.specs.Sandboxes.{Holding}
-use Rattle.sandboxes.specs.Sums.{Sums}
 use Rattle.shelves.specs.Shelves.{has_shelf, shelf_of, value_at, without}
 use Rattle.shelves.specs.SortedMap.{last_entry}
 use Rattle.version_rules.specs.Versions.{reads_version}
@@ -21,11 +17,10 @@ use Rattle.version_rules.specs.declared.fault.VersionFault.{VersionFault}
 use Rattle.version_rules.specs.declared.versions.Version.{Version}
 use Rattle.org_core.specs.Contexts.{Context}
 use Rattle.org_core.specs.Creating.{created_list}
-use Rattle.org_shelves.specs.Files.{is_committed}
-use Rattle.org_core.specs.Outcomes.{Told, Decided, shows, makes, does_by, reads}
-use Rattle.org_core.specs.Parameters.{asked_for}
-use Rattle.org_core.specs.Refusals.{refuses, first_some}
-use Rattle.org_core.specs.Replies.{org_uri}
+use Rattle.org_core.specs.Manifests.{files_front, missing_sums, missing_told, or_bad_manifest, shown_found}
+use Rattle.org_core.specs.Outcomes.{Decided, shows, makes_or_shows, does_by, reads}
+use Rattle.org_requests.specs.Parameters.{asked_for}
+use Rattle.org_requests.specs.Refusals.{refuses, first_some}
 use Rattle.org_shelves.specs.Shelved.{Cookbooks}
 use Rattle.org_core.specs.States.{cookbooks_of}
 use Rattle.org_shelves.specs.declared.shelf_moves.ShelfMove.TheVariants as shelf
@@ -33,12 +28,9 @@ use Rattle.org_core.specs.declared.moves.Move.{Move}
 use Rattle.org_core.specs.declared.moves.Move.TheVariants as move
 use Rattle.org_core.specs.declared.needs.Need.{Need}
 use Rattle.org_core.specs.declared.needs.Need.TheVariants.{Listed}
-use Rattle.org_core.specs.declared.refusals.Refusal.{Refusal}
-use Rattle.org_core.specs.declared.refusals.Refusal.TheVariants.{BadField, Frozen}
-use Rattle.org_core.specs.declared.refusals.Stop.{Stop}
-use Rattle.org_core.specs.declared.refusals.Stop.TheVariants.{Refused, NoMemory}
-use Rattle.org_core.specs.declared.requests.Parameter.{Parameter}
-use Rattle.cookbook_routes.specs.Sandboxes.{missing_told}
+use Rattle.org_requests.specs.declared.refusals.Refusal.{Refusal}
+use Rattle.org_requests.specs.declared.refusals.Refusal.TheVariants.{Frozen}
+use Rattle.org_requests.specs.declared.requests.Parameter.{Parameter}
 use Rattle.cookbook_routes.specs.declared.operations.Wanted.{Wanted}
 use Rattle.cookbook_routes.specs.declared.operations.Wanted.TheVariants.{Latest, Exactly}
 
@@ -63,20 +55,6 @@ is_true_text (Some text) = bytes_eq text (codes "true")
 abbrev pub is_forced : List Parameter → Bool
 is_forced parameters = is_true_text (asked_for (codes "force") parameters)
 
--- the refusal of a body that gives no manifest, by its first field that hasn't its form
-abbrev pub bad_manifest : MetaFault → Refusal
-bad_manifest fault = BadField (unwrap_or (field_of fault) [])
-
--- a stop tells of a fault by the field that it names, or of want of memory
-abbrev pub IsToldAs : Stop → MetaFault → Type 0
-IsToldAs NoMemory fault = Unit {0}
-IsToldAs (Refused refusal) fault = option_map BadField (field_of fault) ≡ Some refusal
-
--- what is to be stored, or the refusal of a body that gives no manifest
-abbrev pub or_bad_manifest : Result Doc MetaFault → Result Doc Refusal
-or_bad_manifest (Ok manifest) = Ok manifest
-or_bad_manifest (Err fault) = Err (bad_manifest fault)
-
 -- what is stored of the manifest of this name and version that a document gives
 abbrev pub manifest_said : List ℕ → Version → Result Doc Refusal → Result Doc Refusal
 manifest_said name version (Ok doc) = or_bad_manifest (stored_from name version doc)
@@ -95,15 +73,6 @@ abbrev pub wanted_of : Context → List ℕ → Wanted → Option Doc
 wanted_of context name Latest = latest_of (cookbooks_of context.state) name
 wanted_of context name (Exactly version) = stored_at context name version
 
--- the front of the paths of files
-abbrev pub files_front : List ℕ → List ℕ
-files_front org = org_uri org ++ codes "/files/"
-
--- a manifest as a reply shows it, where one was found
-abbrev pub shown_found : List ℕ → Option Doc → Doc
-shown_found org None = null
-shown_found org (Some manifest) = shown_doc (files_front org) manifest
-
 -- a version is shown: 200 with its manifest
 abbrev pub version_shown : Context → List ℕ → Wanted → Decided
 version_shown context name wanted = reads (shows (shown_found context.org (wanted_of context name wanted)))
@@ -112,10 +81,6 @@ version_shown context name wanted = reads (shows (shown_found context.org (wante
 abbrev pub is_frozen_found : Option Doc → Bool
 is_frozen_found None = false
 is_frozen_found (Some manifest) = is_frozen manifest
-
--- the checksums that a manifest names and of which the organisation has no committed file, in the order of their bytes
-abbrev pub missing_sums : Holding → Doc → Sums
-missing_sums files manifest = filter (λ sum. not (is_committed files sum)) (in_order (sums_in manifest))
 
 -- why a version isn't put: the one in its place is frozen and the request isn't forced, or files are missing
 abbrev pub put_refusal : Context → List ℕ → Version → Doc → Bool → Option Refusal
@@ -129,11 +94,6 @@ put_refusal context name version manifest forced =
 abbrev pub stored_over : Option Doc → Doc → Doc
 stored_over found manifest = cond (is_frozen_found found) (freeze manifest) manifest
 
--- the reply to a PUT: 201 where nothing stood there, and else 200
-abbrev pub told_of_put : Option Doc → Doc → Told
-told_of_put None doc = makes doc
-told_of_put (Some manifest) doc = shows doc
-
 -- a cookbook's access list comes with its first version
 abbrev pub first_list : Context → List ℕ → List Move
 first_list context name = cond (has_shelf (cookbooks_of context.state) name) [] (move.PutList (key kinds.Cookbook name) (created_list container.Cookbooks context) ∷ [])
@@ -142,10 +102,10 @@ first_list context name = cond (has_shelf (cookbooks_of context.state) name) [] 
 abbrev pub put_moves : Context → List ℕ → Version → Doc → List Move
 put_moves context name version manifest = move.OnShelves (shelf.PutVersion name version manifest) ∷ first_list context name
 
--- a version is put: what stood there was looked at
+-- a version is put: 201 where nothing stood there, and else 200. What stood there was looked at
 abbrev pub version_put : Context → List ℕ → Version → Doc → Decided
 version_put context name version manifest =
-    does_by (told_of_put (stored_at context name version) (shown_doc (files_front context.org) (stored_over (stored_at context name version) manifest)))
+    does_by (makes_or_shows (stored_at context name version) (shown_doc (files_front context.org) (stored_over (stored_at context name version) manifest)))
     (put_moves context name version (stored_over (stored_at context name version) manifest))
     (cond (is_some (stored_at context name version)) 1 0)
 

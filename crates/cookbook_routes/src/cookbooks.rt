@@ -11,9 +11,9 @@ use crate::{
 use access_lists::Perm;
 use doc_tree::{Kind, NoMemory, Steps};
 use object_finder::Finder;
-use org_core::{
-    Context, CookbookRoute, Group, Lent, Need, Needs, Prepared, Refusal, Request, Stop, listed_need,
-};
+use org_core::{Context, Group, Lent, Need, Needs, Prepared, listed_need};
+use org_requests::routes::CookbookRoute;
+use org_requests::{Refusal, Request, Stop};
 use std::alloc::Global;
 use std::sync::ledger::Ledger;
 
@@ -44,11 +44,11 @@ impl Group for Cookbooks {
             CookbookRoute::Sandbox(id) => sandbox_routes::sandbox_asked(alloc, id, verb, body),
             CookbookRoute::File(sum) => file_routes::file_asked(alloc, sum, verb, body),
             CookbookRoute::Cookbooks => {
-                listing_routes::cookbooks_asked(alloc, verb, request.asked.as_slice())
+                listing_routes::cookbooks_asked(alloc, verb, request.parameters.as_slice())
             }
             CookbookRoute::Cookbook(name) => listing_routes::cookbook_asked(alloc, name, verb),
             CookbookRoute::Version(name, version) => {
-                let parameters = request.asked.as_slice();
+                let parameters = request.parameters.as_slice();
                 version_routes::version_asked(alloc, name, version, verb, parameters, body)
             }
             CookbookRoute::Universe => universe_routes::universe_asked(verb),

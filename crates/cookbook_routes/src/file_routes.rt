@@ -5,17 +5,18 @@ ghost use Rattle.std.specs.FinMap as finite;
 ghost use Rattle.sandboxes.specs.Sandboxes.{awaits};
 ghost use Rattle.org_core.specs.Contexts.{seen};
 ghost use Rattle.org_shelves.specs.Files.{is_committed as spec_is_committed};
-ghost use Rattle.org_core.specs.Outcomes.{Finds};
-ghost use Rattle.org_core.specs.Refusals.{Tells};
+ghost use Rattle.org_core.specs.Outcomes.{IsAsDecided};
+ghost use Rattle.org_requests.specs.Refusals.{Tells};
 ghost use Rattle.cookbook_routes.specs.CookbookRules as rules;
 ghost use Rattle.cookbook_routes.specs.Files as spec;
 
 use crate::operations::CookbookOperation;
-use crate::prepared::{or_stop, told, with_moves};
-use crate::sandbox_routes::is_committed;
 use doc_tree::{Bytes, Fields, NoMemory, Text, Tree};
-use org_core::{Body, Context, FileMove, Move, Moves, Prepared, Refusal, Stop, given, one_move};
-use route_table::Verb;
+use org_core::{
+    Context, FileMove, Move, Moves, Prepared, one_move, or_stop, reply_showing, with_moves,
+};
+use org_requests::{Body, Refusal, Stop, Verb, given};
+use org_shelves::is_committed;
 use sandboxes::{Checksum, Hashed, read_checksum};
 use std::alloc::Global;
 
@@ -92,23 +93,16 @@ pub(crate) fn digest_refusal(asked: &Checksum, file: &Hashed) -> Option<Refusal>
 
 /// A file is uploaded.
 pub(crate) fn upload(alloc: Global, asked: Checksum, file: Hashed) -> Result<Prepared, Stop>
-    ensures { Finds result (spec.file_uploaded asked file).answer }
+    ensures { IsAsDecided result (spec.file_uploaded asked file).answer }
 {
-    match told(alloc, Tree::Dict(Fields::new(alloc))) {
-        Ok(reply) => {
-            let moves = one_move(alloc, Move::OnFiles(FileMove::Upload(asked, file)));
-            or_stop(with_moves(reply, moves))
-        }
-        Err(fault) => {
-            drop(file);
-            Err(Stop::from(fault))
-        }
-    }
+    let reply = reply_showing(alloc, Tree::Dict(Fields::new(alloc)));
+    let moves = one_move(alloc, Move::OnFiles(FileMove::Upload(asked, file)));
+    or_stop(with_moves(reply, moves))
 }
 
 /// A file is shown.
 pub(crate) fn show(alloc: Global, context: Context<'_>, sum: Checksum) -> Result<Prepared, Stop>
-    ensures { Finds result (spec.file_shown (seen context.entry) sum).answer }
+    ensures { IsAsDecided result (spec.file_shown (seen context.entry) sum).answer }
 {
     let body = bytes_of(alloc, context, &sum)?;
     Ok(Prepared {

@@ -6,7 +6,6 @@ mod file_routes;
 mod laws;
 mod listing_routes;
 mod operations;
-mod prepared;
 mod sandbox_routes;
 mod solving_routes;
 mod trees;
@@ -14,6 +13,5 @@ mod universe_routes;
 mod version_routes;
 
 pub use cookbooks::Cookbooks;
-pub use laws::{cookbooks_are_orderly, cookbooks_keep_conditions};
+pub use laws::cookbooks_are_lawful;
 pub use operations::{CookbookOperation, Count, Wanted};
-pub use version_routes::{bad_manifest, missing_sums, shown_edition, shown_found};

@@ -8,8 +8,8 @@ ghost use Rattle.shelves.specs.Shelves.{shelf_of};
 ghost use Rattle.shelves.specs.SortedMap.{map_of};
 ghost use Rattle.version_rules.specs.Order.{version_cmp};
 ghost use Rattle.org_core.specs.Contexts.{seen};
-ghost use Rattle.org_core.specs.Outcomes.{Finds};
-ghost use Rattle.org_core.specs.Refusals.{Tells};
+ghost use Rattle.org_core.specs.Outcomes.{IsAsDecided};
+ghost use Rattle.org_requests.specs.Refusals.{Tells};
 ghost use Rattle.org_core.specs.States.{cookbooks_of};
 ghost use Rattle.shelves.specs.Shelves.{shelves_of};
 ghost use Rattle.version_rules.specs.Order.{version_cmp};
@@ -17,16 +17,11 @@ ghost use Rattle.cookbook_routes.specs.CookbookRules as rules;
 ghost use Rattle.cookbook_routes.specs.Listings as spec;
 
 use crate::operations::{CookbookOperation, Count};
-use crate::prepared::told;
 use crate::trees::two;
-use cookbook_editions::Edition;
 use doc_tree::{Fields, NoMemory, Text, Tree, Trees};
-use org_core::{
-    Context, Moves, Parameter, Prepared, Refusal, Stop, asked_for, joined, number_in, org_uri,
-    shown_key,
-};
-use org_shelves::Cookbooks;
-use route_table::Verb;
+use org_core::{Context, Moves, Prepared, reply_showing};
+use org_requests::{Parameter, Refusal, Stop, Verb, asked_for, number_in, org_uri, shown_key};
+use org_shelves::{Cookbooks, Edition};
 use shelves::SortedMap;
 use std::alloc::Global;
 use version_rules::Version;
@@ -89,11 +84,11 @@ pub(crate) fn list_cookbooks(
     context: Context<'_>,
     count: Count,
 ) -> Result<Prepared, Stop>
-    ensures { Finds result (spec.cookbooks_listed (seen context.entry) count).answer }
+    ensures { IsAsDecided result (spec.cookbooks_listed (seen context.entry) count).answer }
 {
     let tree = listing_tree(alloc, context.org, count, context.state.cookbooks())?;
     Ok(Prepared {
-        reply: told(alloc, tree)?,
+        reply: reply_showing(alloc, tree)?,
         moves: Moves::new(alloc),
     })
 }
@@ -120,7 +115,7 @@ pub(crate) fn list_versions(
     context: Context<'_>,
     name: Text,
 ) -> Result<Prepared, Stop>
-    ensures { Finds result (spec.cookbook_listed (seen context.entry) name).answer }
+    ensures { IsAsDecided result (spec.cookbook_listed (seen context.entry) name).answer }
 {
     let tree = versions_tree(alloc, context, &name)?;
     Ok(Prepared {
@@ -199,13 +194,13 @@ fn version_path(alloc: Global, org: &Text, name: &Text, number: &Text) -> Result
     ensures { IfOk result (λ path. path ≡ spec.cookbook_path org.now name.now ++ (codes "/" ++ number.now)) }
 {
     let front = cookbook_path(alloc, org, name)?;
-    let rest = joined(alloc, "/", number.as_str())?;
-    joined(alloc, front.as_str(), rest.as_str())
+    let rest = Text::joined(alloc, "/", number.as_str())?;
+    Text::joined(alloc, front.as_str(), rest.as_str())
 }
 
 fn cookbook_path(alloc: Global, org: &Text, name: &Text) -> Result<Text, NoMemory>
     ensures { IfOk result (λ path. path ≡ spec.cookbook_path org.now name.now) }
 {
-    let front = joined(alloc, org_uri(alloc, org)?.as_str(), "/cookbooks/")?;
-    joined(alloc, front.as_str(), name.as_str())
+    let front = Text::joined(alloc, org_uri(alloc, org)?.as_str(), "/cookbooks/")?;
+    Text::joined(alloc, front.as_str(), name.as_str())
 }

@@ -1,9 +1,9 @@
 //! What can be asked of cookbooks, sandboxes and files: one operation for each path and method of the
 //! table of routes, with all that the path, the parameters and the body say.
 
-use cookbook_editions::Edition;
 use dep_solver::Roots;
 use doc_tree::Text;
+use org_shelves::Edition;
 use sandboxes::{Checksum, Hashed, Sums};
 use version_rules::Version;
 

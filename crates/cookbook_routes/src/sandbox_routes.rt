@@ -10,24 +10,22 @@ ghost use Rattle.doc_tree.specs.Valid.{InOrder};
 ghost use Rattle.sandboxes.specs.Files.{holding_of};
 ghost use Rattle.sandboxes.specs.Sandboxes as holdings;
 ghost use Rattle.sandboxes.specs.Sums.{IsRising};
-ghost use Rattle.org_core.specs.Bodies as bodies;
+ghost use Rattle.org_requests.specs.Documents as bodies;
 ghost use Rattle.org_core.specs.Contexts.{seen};
-ghost use Rattle.org_shelves.specs.Files.{is_committed as spec_is_committed};
-ghost use Rattle.org_core.specs.Outcomes.{Finds};
-ghost use Rattle.org_core.specs.Refusals.{Tells, refuses};
-ghost use Rattle.org_core.specs.Replies.{with_body};
+ghost use Rattle.org_core.specs.Outcomes.{IsAsDecided};
+ghost use Rattle.org_requests.specs.Refusals.{Tells, refuses};
+ghost use Rattle.org_requests.specs.Replies.{with_body};
 ghost use Rattle.cookbook_routes.specs.CookbookRules as rules;
 ghost use Rattle.cookbook_routes.specs.Sandboxes as spec;
 
 use crate::operations::CookbookOperation;
-use crate::prepared::{or_stop, told, with_moves};
 use crate::trees::{put, two};
 use doc_tree::{Field, Fields, NoMemory, Text, Tree, Trees};
 use org_core::{
-    Body, Context, FileMove, Move, Prepared, Refusal, Reply, Stop, document_in, joined, made,
-    one_move, org_uri,
+    Context, FileMove, Move, Prepared, missing_told, one_move, or_stop, reply_showing, with_moves,
 };
-use route_table::Verb;
+use org_requests::{Body, Refusal, Reply, Stop, Verb, document_in, made, org_uri};
+use org_shelves::is_committed;
 use sandboxes::{Checksum, Files, SandFault, Sums, read_checksum, sandbox_id};
 use std::alloc::Global;
 
@@ -182,19 +180,9 @@ pub(crate) fn missing_refusal(
     }
 }
 
-fn missing_told(sums: Sums) -> Option<Refusal>
-    ensures { result ≡ spec.missing_told sums }
-{
-    if sums.is_empty() {
-        None
-    } else {
-        Some(Refusal::MissingChecksums(sums))
-    }
-}
-
 /// A sandbox begins. At the end of the organisation's count none does.
 pub(crate) fn begin(alloc: Global, context: Context<'_>, sums: Sums) -> Result<Prepared, Stop>
-    ensures { Finds result (spec.sandbox_begun (seen context.entry) sums).answer }
+    ensures { IsAsDecided result (spec.sandbox_begun (seen context.entry) sums).answer }
 {
     match next_id(context) {
         Some(id) => Ok(begin_as(alloc, context, id, sums)?),
@@ -218,9 +206,9 @@ fn begin_as(
     id: Checksum,
     sums: Sums,
 ) -> Result<Prepared, NoMemory>
-    ensures { IfOk result (λ p. Finds (Ok p) (spec.begun_as (seen context.entry) id sums).answer) }
+    ensures { IfOk result (λ p. IsAsDecided (Ok p) (spec.begun_as (seen context.entry) id sums).answer) }
 {
-    let reply = begun_reply(alloc, context, &id, &sums)?;
+    let reply = begun_reply(alloc, context, &id, &sums);
     with_moves(reply, one_move(alloc, Move::OnFiles(FileMove::Begin(sums))))
 }
 
@@ -301,21 +289,11 @@ fn upload_tree(alloc: Global, org: &Text, files: &Files, sum: &Checksum) -> Resu
     )
 }
 
-/// Whether an organisation has a committed file of this checksum.
-pub(crate) fn is_committed(org: &Text, files: &Files, sum: &Checksum) -> bool
-    ensures { result ≡ spec_is_committed (holding_of files.now org.now) sum.now }
-{
-    match files.file(org, sum) {
-        Some((_, committed)) => committed,
-        None => false,
-    }
-}
-
 /// A sandbox is committed.
 pub(crate) fn commit(alloc: Global, context: Context<'_>, id: Checksum) -> Result<Prepared, Stop>
-    ensures { Finds result (spec.sandbox_committed (seen context.entry) id).answer }
+    ensures { IsAsDecided result (spec.sandbox_committed (seen context.entry) id).answer }
 {
-    let reply = committed_reply(alloc, context, &id)?;
+    let reply = committed_reply(alloc, context, &id);
     let moves = one_move(alloc, Move::OnFiles(FileMove::Commit(id)));
     or_stop(with_moves(reply, moves))
 }
@@ -325,7 +303,7 @@ fn committed_reply(alloc: Global, context: Context<'_>, id: &Checksum) -> Result
     ensures { IfOk result (λ reply. reply ≡ with_body 200 (spec.committed_doc id.now (spec.sums_doc (holdings.sums_of (seen context.entry).files id.now)))) }
 {
     let sums = listed_tree(alloc, context, id)?;
-    told(alloc, committed_tree(alloc, id, sums)?)
+    reply_showing(alloc, committed_tree(alloc, id, sums)?)
 }
 
 // The checksums that a sandbox lists, of which one that isn't there lists none.
@@ -380,13 +358,13 @@ fn words(alloc: Global, sum: &Checksum) -> Result<Tree, NoMemory>
 fn sandbox_path(alloc: Global, org: &Text, id: &Checksum) -> Result<Text, NoMemory>
     ensures { IfOk result (λ path. path ≡ spec.sandbox_path org.now id.now) }
 {
-    let front = joined(alloc, org_uri(alloc, org)?.as_str(), "/sandboxes/")?;
-    joined(alloc, front.as_str(), id.as_str())
+    let front = Text::joined(alloc, org_uri(alloc, org)?.as_str(), "/sandboxes/")?;
+    Text::joined(alloc, front.as_str(), id.as_str())
 }
 
 fn file_path(alloc: Global, org: &Text, sum: &Checksum) -> Result<Text, NoMemory>
     ensures { IfOk result (λ path. path ≡ spec.file_path org.now sum.now) }
 {
-    let front = joined(alloc, org_uri(alloc, org)?.as_str(), "/files/")?;
-    joined(alloc, front.as_str(), sum.as_str())
+    let front = Text::joined(alloc, org_uri(alloc, org)?.as_str(), "/files/")?;
+    Text::joined(alloc, front.as_str(), sum.as_str())
 }

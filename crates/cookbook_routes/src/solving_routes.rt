@@ -4,33 +4,29 @@ ghost use Rattle.std.specs.Prelude.{◌≡◌, ◌↔◌, [], IfOk, OnOk, IsTrue
 ghost use Rattle.doc_tree.specs.Name.{is_name as spec_is_name};
 ghost use Rattle.doc_tree.specs.Part.{part_at, with_pair};
 ghost use Rattle.doc_tree.specs.Tree.{doc_of};
-ghost use Rattle.org_core.specs.Bodies as bodies;
+ghost use Rattle.org_requests.specs.Documents as bodies;
 ghost use Rattle.org_core.specs.Contexts.{seen};
-ghost use Rattle.org_core.specs.Outcomes.{Finds, Looked};
-ghost use Rattle.org_core.specs.Refusals.{Tells};
+ghost use Rattle.org_core.specs.Outcomes.{IsAsDecided, Looked};
+ghost use Rattle.org_requests.specs.Refusals.{Tells};
 ghost use Rattle.org_core.specs.States.{cookbooks_of};
-ghost use Rattle.cookbook_editions.specs.Editions.{read_or};
-ghost use Rattle.cookbook_editions.specs.Universes.{universe_of as spec_universe_of};
+ghost use Rattle.org_shelves.specs.Editions.{read_or};
+ghost use Rattle.org_shelves.specs.Universes.{universe_of as spec_universe_of};
 ghost use Rattle.cookbook_meta.specs.Metadata.{needs_of};
-ghost use Rattle.run_list_roots.specs.Reading.{recipes_of as spec_recipes_of};
+ghost use Rattle.run_lists.specs.Reading.{recipes_of as spec_recipes_of};
 ghost use Rattle.cookbook_routes.specs.CookbookRules as rules;
 ghost use Rattle.cookbook_routes.specs.Solving as spec;
 
 use crate::operations::CookbookOperation;
-use crate::prepared::told;
 use crate::universe_routes::look_at_each;
-use crate::version_routes::{shown_found, stored_at};
+use crate::version_routes::stored_at;
 use access_lists::Perm;
-use cookbook_editions::universe_of;
 use cookbook_meta::{MetaFault, read_needs};
 use dep_solver::{EnvRules, NoSolution, Pin, Pins, Roots, Solved, Universe, best_pins};
 use doc_tree::{Fields, Kind, NoMemory, Steps, Text, Tree, is_name};
-use org_core::{
-    Body, Context, Moves, Need, Prepared, Refusal, Stop, absent, document_in, listed_need,
-};
-use route_table::Verb;
-use run_list::Items;
-use run_list_roots::{recipes_of, roots_of};
+use org_core::{Context, Moves, Need, Prepared, listed_need, reply_showing, shown_found};
+use org_requests::{Body, Refusal, Stop, Verb, absent, document_in};
+use org_shelves::universe_of;
+use run_lists::{Items, recipes_of, roots_of};
 use std::alloc::Global;
 use std::sync::ledger::Ledger;
 use version_rules::Needs as Constraints;
@@ -125,7 +121,7 @@ pub(crate) fn solve_versions<L: Ledger>(
     roots: &Roots,
     steps: &mut Steps<L>,
 ) -> Result<Prepared, Stop>
-    ensures done { Finds result (spec.versions_solved (seen context.entry) environment.now roots.now).answer }
+    ensures done { IsAsDecided result (spec.versions_solved (seen context.entry) environment.now roots.now).answer }
     ensures looked { Looked result (spec.versions_solved (seen context.entry) environment.now roots.now).looks steps.old steps.new }
 {
     let environment = context
@@ -159,13 +155,13 @@ fn show_chosen<L: Ledger>(
     pins: &[Pin],
     steps: &mut Steps<L>,
 ) -> Result<Prepared, Stop>
-    ensures done { Finds result (spec.solved_as (seen context.entry) (Ok pins.now)).answer }
+    ensures done { IsAsDecided result (spec.solved_as (seen context.entry) (Ok pins.now)).answer }
     ensures looked { Looked result (length pins.now) steps.old steps.new }
 {
     look_at_each(pins, steps);
     let tree = chosen_tree(alloc, context, pins)?;
     Ok(Prepared {
-        reply: told(alloc, tree)?,
+        reply: reply_showing(alloc, tree)?,
         moves: Moves::new(alloc),
     })
 }

@@ -8,21 +8,19 @@ ghost use Rattle.shelves.specs.SortedMap.{map_of};
 ghost use Rattle.std.specs.FinMap as finite;
 ghost use Rattle.version_rules.specs.Order.{version_cmp};
 ghost use Rattle.org_core.specs.Contexts.{seen};
-ghost use Rattle.org_core.specs.Outcomes.{Finds, Looked};
-ghost use Rattle.org_core.specs.Refusals.{Tells};
+ghost use Rattle.org_core.specs.Outcomes.{IsAsDecided, Looked};
+ghost use Rattle.org_requests.specs.Refusals.{Tells};
 ghost use Rattle.shelves.specs.Shelves.{shelves_of};
 ghost use Rattle.version_rules.specs.Order.{version_cmp};
 ghost use Rattle.cookbook_routes.specs.CookbookRules as rules;
 ghost use Rattle.cookbook_routes.specs.Universes as spec;
 
 use crate::operations::CookbookOperation;
-use crate::prepared::told;
 use crate::trees::put;
-use cookbook_editions::Edition;
 use doc_tree::{Fields, NoMemory, Steps, Text, Tree};
-use org_core::{Context, Moves, Prepared, Refusal, Stop, org_uri};
-use org_shelves::Cookbooks;
-use route_table::Verb;
+use org_core::{Context, Moves, Prepared, reply_showing};
+use org_requests::{Refusal, Stop, Verb, org_uri};
+use org_shelves::{Cookbooks, Edition};
 use shelves::SortedMap;
 use std::alloc::Global;
 use std::sync::ledger::Ledger;
@@ -46,14 +44,14 @@ pub(crate) fn show_universe<L: Ledger>(
     context: Context<'_>,
     steps: &mut Steps<L>,
 ) -> Result<Prepared, Stop>
-    ensures done { Finds result (spec.universe_shown (seen context.entry)).answer }
+    ensures done { IsAsDecided result (spec.universe_shown (seen context.entry)).answer }
     ensures looked { Looked result (spec.universe_shown (seen context.entry)).looks steps.old steps.new }
 {
     let cookbooks = context.state.cookbooks();
     look_at_all(cookbooks, steps);
     let tree = universe_tree(alloc, context.org, cookbooks)?;
     Ok(Prepared {
-        reply: told(alloc, tree)?,
+        reply: reply_showing(alloc, tree)?,
         moves: Moves::new(alloc),
     })
 }

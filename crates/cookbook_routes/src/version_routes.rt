@@ -1,36 +1,34 @@
 //! The routes of cookbook versions.
 
-ghost use Rattle.std.specs.Prelude.{◌≡◌, ◌+◌, ◌∷◌, [], None, Some, Ok, IfOk, OnOk, codes, is_some, not, cond, option_map, option_copied, filter};
+ghost use Rattle.std.specs.Prelude.{◌≡◌, ◌+◌, ◌∷◌, [], None, Some, Ok, IfOk, OnOk, codes, is_some, not, cond, option_map, option_copied};
 ghost use Rattle.doc_tree.specs.Name.{is_name as spec_is_name};
 ghost use Rattle.doc_tree.specs.Tree.{doc_of};
 ghost use Rattle.shelves.specs.Shelves.{has_shelf};
-ghost use Rattle.org_core.specs.Bodies as bodies;
+ghost use Rattle.org_requests.specs.Documents as bodies;
 ghost use Rattle.access_lists.specs.declared.starting.Container.TheVariants as container;
 ghost use Rattle.org_core.specs.Contexts.{seen};
 ghost use Rattle.org_core.specs.Creating.{created_list as spec_created_list};
-ghost use Rattle.org_core.specs.Outcomes.{Finds, Looked};
-ghost use Rattle.org_core.specs.Refusals.{Tells};
-ghost use Rattle.org_core.specs.Replies.{with_body};
+ghost use Rattle.org_core.specs.Manifests as manifests;
+ghost use Rattle.org_core.specs.Outcomes.{Looked, IsAsDecided};
+ghost use Rattle.org_requests.specs.Refusals.{Tells};
+ghost use Rattle.org_requests.specs.Replies.{with_body};
 ghost use Rattle.org_core.specs.States.{cookbooks_of};
 ghost use Rattle.cookbook_routes.specs.CookbookRules as rules;
-ghost use Rattle.cookbook_routes.specs.Sandboxes.{missing_told};
 ghost use Rattle.cookbook_routes.specs.Versions as spec;
 
 use crate::operations::{CookbookOperation, Wanted};
-use crate::prepared::{or_stop, told, with_moves};
-use crate::sandbox_routes::is_committed;
 use access_lists::{Container, Perm};
-use cookbook_editions::{Edition, shown as shown_manifest};
-use cookbook_meta::MetaFault;
 use doc_tree::{Kind, Name, NoMemory, Steps, Text, Tree, is_name};
 use object_store::Key;
 use org_core::{
-    Body, Context, Move, Moves, Need, Parameter, Prepared, Refusal, Reply, Stop, absent, asked_for,
-    created_list, document_in, joined, key_of, listed_need, made, one_move, org_uri, shown,
+    Context, Move, Moves, Need, Prepared, bad_manifest, created_list, key_of, listed_need,
+    missing_sums, missing_told, one_move, or_stop, reply_showing, shown_edition, shown_found,
+    with_moves,
 };
-use org_shelves::ShelfMove;
-use route_table::Verb;
-use sandboxes::Sums;
+use org_requests::{
+    Body, Parameter, Refusal, Reply, Stop, Verb, absent, asked_for, document_in, made_or_shown,
+};
+use org_shelves::{Edition, ShelfMove};
 use std::alloc::Global;
 use std::sync::ledger::Ledger;
 use version_rules::{Version, read_version};
@@ -142,19 +140,6 @@ fn edition_of(alloc: Global, tree: &Tree, name: &Name, version: &Version) -> Res
     }
 }
 
-/// 400 with the first field of a manifest that hasn't its form, or want of memory.
-pub fn bad_manifest(alloc: Global, fault: &MetaFault) -> Stop
-    ensures { spec.IsToldAs result fault.now }
-{
-    match fault.field() {
-        Some(field) => match field.copy(alloc) {
-            Ok(field) => Stop::Refused(Refusal::BadField(field)),
-            Err(NoMemory) => Stop::NoMemory,
-        },
-        None => Stop::NoMemory,
-    }
-}
-
 // Whether the parameter `force` is `true`.
 fn is_forced(parameters: &[Parameter]) -> bool
     ensures { result ≡ spec.is_forced parameters.now }
@@ -250,11 +235,7 @@ pub(crate) fn put_refusal(
     if is_frozen_at(context, name, version) && !forced {
         return Ok(Some(Refusal::Frozen));
     }
-    let missing = missing_sums(alloc, context, edition)?;
-    if missing.is_empty() {
-        return Ok(None);
-    }
-    Ok(Some(Refusal::MissingChecksums(missing)))
+    Ok(missing_told(missing_sums(alloc, context, edition)?))
 }
 
 fn is_frozen_at(context: Context<'_>, name: &Text, version: Version) -> bool
@@ -266,20 +247,6 @@ fn is_frozen_at(context: Context<'_>, name: &Text, version: Version) -> bool
     }
 }
 
-/// The checksums that a manifest names and of which the organisation has no committed file, in the order of
-/// their bytes. The error is want of memory.
-pub fn missing_sums(
-    alloc: Global,
-    context: Context<'_>,
-    edition: &Edition,
-) -> Result<Sums, NoMemory>
-    ensures { IfOk result (λ sums. sums ≡ spec.missing_sums (seen context.entry).files edition.now) }
-{
-    let mut missing = edition.sums().copy(alloc)?.into_vec();
-    missing.retain(|sum| !is_committed(context.org, context.files, sum));
-    Ok(Sums::in_order(missing))
-}
-
 /// A version is shown.
 pub(crate) fn show<L: Ledger>(
     alloc: Global,
@@ -288,7 +255,7 @@ pub(crate) fn show<L: Ledger>(
     wanted: Wanted,
     steps: &mut Steps<L>,
 ) -> Result<Prepared, Stop>
-    ensures done { Finds result (spec.version_shown (seen context.entry) name wanted).answer }
+    ensures done { IsAsDecided result (spec.version_shown (seen context.entry) name wanted).answer }
     ensures looked { Looked result (spec.version_shown (seen context.entry) name wanted).looks steps.old steps.new }
 {
     steps.tick();
@@ -301,28 +268,9 @@ pub(crate) fn show<L: Ledger>(
 
 // 200 with the manifest that was found.
 fn found_told(alloc: Global, org: &Text, found: Option<&Edition>) -> Result<Reply, NoMemory>
-    ensures { IfOk result (λ reply. reply ≡ with_body 200 (spec.shown_found org.now (option_copied found.entry))) }
+    ensures { IfOk result (λ reply. reply ≡ with_body 200 (manifests.shown_found org.now (option_copied found.entry))) }
 {
-    told(alloc, shown_found(alloc, org, found)?)
-}
-
-/// A manifest as a reply shows it, with the URLs of its files, where one was found, and null where none was. The
-/// error is want of memory.
-pub fn shown_found(alloc: Global, org: &Text, found: Option<&Edition>) -> Result<Tree, NoMemory>
-    ensures { IfOk result (λ tree. doc_of tree ≡ spec.shown_found org.now (option_copied found.entry)) }
-{
-    match found {
-        Some(edition) => shown_edition(alloc, org, edition),
-        None => Ok(Tree::Null),
-    }
-}
-
-/// A manifest as a reply shows it, with the URLs of its files. The error is want of memory.
-pub fn shown_edition(alloc: Global, org: &Text, edition: &Edition) -> Result<Tree, NoMemory>
-    ensures { IfOk result (λ tree. doc_of tree ≡ spec.shown_found org.now (Some edition.now)) }
-{
-    let front = joined(alloc, org_uri(alloc, org)?.as_str(), "/files/")?;
-    shown_manifest(alloc, front.as_str(), edition)
+    reply_showing(alloc, shown_found(alloc, org, found)?)
 }
 
 /// A version is put.
@@ -334,7 +282,7 @@ pub(crate) fn put<L: Ledger>(
     edition: Edition,
     steps: &mut Steps<L>,
 ) -> Result<Prepared, Stop>
-    ensures done { Finds result (spec.version_put (seen context.entry) name version edition).answer }
+    ensures done { IsAsDecided result (spec.version_put (seen context.entry) name version edition).answer }
     ensures looked { Looked result (spec.version_put (seen context.entry) name version edition).looks steps.old steps.new }
 {
     let found = stored_at(context, &name, version);
@@ -355,24 +303,19 @@ fn put_stored(
     is_new: bool,
     stored: Edition,
 ) -> Result<Prepared, NoMemory>
-    ensures reply { IfOk result (λ p. p.reply ≡ with_body (cond is_new 201 200) (spec.shown_found (seen context.entry).org (Some stored))) }
+    ensures reply { IfOk result (λ p. p.reply ≡ with_body (cond is_new 201 200) (manifests.shown_found (seen context.entry).org (Some stored))) }
     ensures moves { IfOk result (λ p. p.moves ≡ spec.put_moves (seen context.entry) name version stored) }
 {
-    match stored_told(alloc, context.org, is_new, &stored) {
-        Ok(reply) => with_moves(reply, put_moves(alloc, context, name, version, stored)),
-        Err(fault) => {
-            drop(stored);
-            Err(fault)
-        }
-    }
+    let reply = stored_told(alloc, context.org, is_new, &stored);
+    with_moves(reply, put_moves(alloc, context, name, version, stored))
 }
 
 // The reply to a PUT, with what is stored.
 fn stored_told(alloc: Global, org: &Text, is_new: bool, stored: &Edition) -> Result<Reply, NoMemory>
-    ensures { IfOk result (λ reply. reply ≡ with_body (cond is_new 201 200) (spec.shown_found org.now (Some stored.now))) }
+    ensures { IfOk result (λ reply. reply ≡ with_body (cond is_new 201 200) (manifests.shown_found org.now (Some stored.now))) }
 {
     let tree = shown_edition(alloc, org, stored)?;
-    let reply = told_of_put(alloc, is_new, &tree);
+    let reply = made_or_shown(alloc, is_new, &tree);
     drop(tree);
     reply
 }
@@ -388,17 +331,6 @@ fn stored_over(
     match found {
         Some(old) if old.is_frozen() => edition.with_frozen(alloc),
         _ => Ok(edition),
-    }
-}
-
-// 201 for what is new, and else 200.
-fn told_of_put(alloc: Global, is_new: bool, tree: &Tree) -> Result<Reply, NoMemory>
-    ensures { IfOk result (λ reply. reply ≡ with_body (cond is_new 201 200) (doc_of tree.now)) }
-{
-    if is_new {
-        made(alloc, tree)
-    } else {
-        shown(alloc, tree)
     }
 }
 
@@ -453,11 +385,11 @@ pub(crate) fn remove<L: Ledger>(
     version: Version,
     steps: &mut Steps<L>,
 ) -> Result<Prepared, Stop>
-    ensures done { Finds result (spec.version_removed (seen context.entry) name version).answer }
+    ensures done { IsAsDecided result (spec.version_removed (seen context.entry) name version).answer }
     ensures looked { Looked result (spec.version_removed (seen context.entry) name version).looks steps.old steps.new }
 {
     steps.tick();
-    let reply = found_told(alloc, context.org, stored_at(context, &name, version))?;
+    let reply = found_told(alloc, context.org, stored_at(context, &name, version));
     or_stop(with_moves(reply, removal(alloc, context, name, version)))
 }
 

@@ -2,9 +2,9 @@
 #![tactic(auto)]
 
 #[cfg(test)]
-mod cookbook_editions_tests;
-#[cfg(test)]
 mod cookbook_meta_tests;
+#[cfg(test)]
+mod editions_tests;
 #[cfg(test)]
 mod org_shelves_tests;
 #[cfg(test)]

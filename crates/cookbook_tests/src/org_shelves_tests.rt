@@ -1,11 +1,10 @@
 //! That the calls succeed with ample memory, and one life of an organisation's shelves. The file is the message `abc` of
 //! RFC 1321, A.5, with its digest.
 
-use cookbook_editions::Edition;
 use doc_tree::{Bytes, Name, NoMemory, Text, Tree, read_json};
 use org_shelves::{
-    Assignments, OrgShelves, Revision, ShelfMove, is_named, make_on_shelves, named_files_stay,
-    sound_moves_keep,
+    Assignments, Edition, OrgShelves, Revision, ShelfMove, is_named, make_on_shelves,
+    named_files_stay, sound_moves_keep,
 };
 use policy_locks::{Lock, read_lock};
 use sandboxes::{Checksum, Files, Hashed, Sums, read_checksum};

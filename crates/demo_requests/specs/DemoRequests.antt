@@ -3,19 +3,19 @@ use Rattle.std.specs.Prelude.{ℕ, ◌+◌, ◌-◌, ◌*◌, nat_lt, List, [], 
 use Rattle.std.specs.List.{range_with_len}
 use Rattle.doc_tree.specs.Doc.{Doc, words, dict, pairs_of}
 use Rattle.doc_tree.specs.Tree.{tree_of}
-use Rattle.route_table.specs.declared.verbs.Verb.{Verb}
-use Rattle.route_table.specs.declared.verbs.Verb.TheVariants.{Get, Post, Put, Delete}
-use Rattle.org_core.specs.declared.collections.Collection.TheVariants.{Nodes}
-use Rattle.org_core.specs.declared.requests.Body.{Body}
-use Rattle.org_core.specs.declared.requests.Body.TheVariants.{Empty, Doc as Read}
-use Rattle.org_core.specs.declared.requests.Parameter.{Parameter}
-use Rattle.org_core.specs.declared.requests.Place.TheVariants.{Of}
-use Rattle.org_core.specs.declared.requests.Request.{Request}
-use Rattle.org_core.specs.declared.routes.ObjectsRoute.TheVariants.{All, One}
-use Rattle.org_core.specs.declared.routes.OrganisationRoute.TheVariants as organisation_route
-use Rattle.org_core.specs.declared.routes.Route.{Route}
-use Rattle.org_core.specs.declared.routes.Route.TheVariants.{Organisation, Objects, Search as Searches}
-use Rattle.org_core.specs.declared.routes.SearchRoute.TheVariants.{Index}
+use Rattle.org_requests.specs.declared.verbs.Verb.{Verb}
+use Rattle.org_requests.specs.declared.verbs.Verb.TheVariants.{Get, Post, Put, Delete}
+use Rattle.org_requests.specs.declared.collections.Collection.TheVariants.{Nodes}
+use Rattle.org_requests.specs.declared.requests.Body.{Body}
+use Rattle.org_requests.specs.declared.requests.Body.TheVariants.{Empty, Doc as Read}
+use Rattle.org_requests.specs.declared.requests.Parameter.{Parameter}
+use Rattle.org_requests.specs.declared.requests.Place.TheVariants.{Of}
+use Rattle.org_requests.specs.declared.requests.Request.{Request}
+use Rattle.org_requests.specs.declared.routes.ObjectsRouteOf.TheVariants.{All, One}
+use Rattle.org_requests.specs.declared.routes.OrganisationRoute.TheVariants as organisation_route
+use Rattle.org_requests.specs.Routes.{Route}
+use Rattle.org_requests.specs.declared.routes.RouteOf.TheVariants.{Organisation, Objects, Search as Searches}
+use Rattle.org_requests.specs.declared.routes.SearchRouteOf.TheVariants.{Index}
 use Rattle.demo_requests.specs.declared.turns.Deed.{Deed}
 use Rattle.demo_requests.specs.declared.turns.Deed.TheVariants.{Create, Show, Remove, Search, Replace}
 use Rattle.demo_requests.specs.declared.turns.Turn.{Turn}
@@ -65,7 +65,7 @@ asks verb org route parameters body = record {
   api = Some 0;
   verb = verb;
   place = Of org route;
-  asked = parameters;
+  parameters = parameters;
   body = body;
   close = false;
 }

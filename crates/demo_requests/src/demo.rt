@@ -7,7 +7,7 @@ use crate::draws::Draws;
 use crate::requests::{creation, turn_request};
 use crate::turns::next_turn;
 use doc_tree::NoMemory;
-use org_core::Request;
+use org_requests::Request;
 use std::alloc::Global;
 use std::marker::Model;
 
@@ -23,9 +23,9 @@ pub struct Demo {
 
 impl Model for Demo {
     ghost use Rattle.std.specs.Prelude.{◌≡◌, ◌+◌, ◌-◌, ◌*◌, ◌≤◌, List};
-    ghost use Rattle.org_core.specs.declared.requests.Request.{Request};
+    ghost use Rattle.org_requests.specs.declared.requests.Request.{Request};
     ghost use Rattle.std.specs.Coded.{coded_list};
-    ghost use Rattle.org_core.specs.contracts.requests.Request as request_type;
+    ghost use Rattle.org_requests.specs.contracts.requests.Request as request_type;
 
     ghost Value = { List Request };
 

@@ -6,11 +6,8 @@ use crate::bodies::{named, tagged};
 use crate::names;
 use crate::turns::{Deed, Turn};
 use doc_tree::{NoMemory, Text};
-use org_core::{
-    Body, Collection, ObjectsRoute, OrganisationRoute, Parameter, Parameters, Place, Request,
-    Route, SearchRoute,
-};
-use route_table::Verb;
+use org_requests::routes::{ObjectsRoute, OrganisationRoute, Route, SearchRoute};
+use org_requests::{Body, Collection, Parameter, Parameters, Place, Request, Verb};
 use std::alloc::Global;
 
 /// The request that creates the organisation of this number.
@@ -116,16 +113,23 @@ fn node_named(name: Text) -> Route
 }
 
 // A request of an organisation, in version 0 of the API.
-fn asks(caller: Text, verb: Verb, org: Text, route: Route, asked: Parameters, body: Body) -> Request
+fn asks(
+    caller: Text,
+    verb: Verb,
+    org: Text,
+    route: Route,
+    parameters: Parameters,
+    body: Body,
+) -> Request
     requires { caller ≡ spec.operator }
-    ensures { result ≡ spec.asks verb org route asked body }
+    ensures { result ≡ spec.asks verb org route parameters body }
 {
     Request {
         caller: Some(caller),
         api: Some(0),
         verb,
         place: Place::Of { org, route },
-        asked,
+        parameters,
         body,
         close: false,
     }

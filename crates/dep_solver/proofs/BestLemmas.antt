@@ -3,6 +3,7 @@ use Rattle.std.proofs.Common.{◌≡◌, ◌∙◌, List, Some, map}
 use Rattle.std.proofs.Math.Logic.{∥∥₁_elim}
 use Rattle.std.proofs.Props.{props}
 use Rattle.std.specs.List.Sorted.{IsStrictlySortedBy}
+use Rattle.doc_tree.specs.Text.{text_cmp}
 use Rattle.dep_solver.specs.declared.roots.Pin.{Pin}
 use Rattle.dep_solver.specs.declared.roots.Roots.{Roots}
 use Rattle.dep_solver.specs.declared.rules.EnvRules.{EnvRules}
@@ -10,7 +11,6 @@ use Rattle.dep_solver.specs.declared.solved.Solved.{Solved}
 use Rattle.dep_solver.specs.declared.universe.Universe.{Universe}
 use Rattle.dep_solver.specs.Best.{IsBest}
 use Rattle.dep_solver.specs.Chosen.{best_of}
-use Rattle.dep_solver.specs.Names.{name_cmp}
 use Rattle.dep_solver.specs.Solutions.{choice_of}
 use Rattle.dep_solver.proofs.ChosenLemmas.{best_of_from, best_of_to}
 
@@ -24,5 +24,5 @@ pub kept_best : (universe copy : Universe) (rules own : EnvRules) (roots same : 
 kept_best universe copy rules own roots same pins a b c e = (best_of_from copy own same pins ((λ i. best_of (a i) (b i) (c i)) ∙ e)).0
 
 -- and its names rise
-pub kept_in_order : (universe : Universe) (rules : EnvRules) (roots : Roots) (pins : List Pin) → best_of universe rules roots ≡ Some pins → IsStrictlySortedBy name_cmp (map (λ (pin : Pin). pin.name) pins)
+pub kept_in_order : (universe : Universe) (rules : EnvRules) (roots : Roots) (pins : List Pin) → best_of universe rules roots ≡ Some pins → IsStrictlySortedBy text_cmp (map (λ (pin : Pin). pin.name) pins)
 kept_in_order universe rules roots pins e = (best_of_from universe rules roots pins e).1

@@ -3,6 +3,7 @@ use Rattle.std.proofs.Common.{◌≡◌, ◌+◌, Bool, true, not, List, [], len
 use Rattle.std.proofs.lemmas.Option.{none-some, same_Some}
 use Rattle.std.specs.List.{list_any}
 use Rattle.std.specs.List.Sorted.{IsStrictlySortedBy}
+use Rattle.doc_tree.specs.Text.{text_cmp}
 use Rattle.dep_solver.specs.declared.roots.Pin.{Pin}
 use Rattle.dep_solver.specs.declared.roots.Roots.{Roots}
 use Rattle.dep_solver.specs.declared.rules.EnvRules.{EnvRules}
@@ -12,7 +13,7 @@ use Rattle.dep_solver.specs.declared.universe.Universe.{Universe}
 use Rattle.dep_solver.specs.Best.{IsBest}
 use Rattle.dep_solver.specs.Chosen.{all_walks, best_of, has_no_version, in_order, is_allowed, is_solution, lacking, pins_of, without_version}
 use Rattle.dep_solver.specs.Laws.{AreBest, BestOfIsTheBest, ListsOfARefusal}
-use Rattle.dep_solver.specs.Names.{CookbookName, name_cmp}
+use Rattle.dep_solver.specs.Names.{CookbookName}
 use Rattle.dep_solver.specs.Refusals.{AreThose, HasNoVersion, IsLacking, IsRefusal, TellsWhy}
 use Rattle.dep_solver.specs.Solutions.{Choice, IsSolution, choice_of}
 use Rattle.dep_solver.specs.Universes.{cookbook_in, releases_in}
@@ -53,7 +54,7 @@ module _ (universe : Universe) (rules : EnvRules) (roots : Roots) where
   best_from (Some walk) found pins e =
       let same : pins_of (choice_of walk) ≡ pins = same_Some (pins_of (choice_of walk)) pins e in (
         subst (IsBest universe rules roots) (sym (choice_back (choice_of walk)) ∙ ap choice_of same) (best_found walk found),
-        subst (λ (ps : List Pin). IsStrictlySortedBy name_cmp (map (λ (p : Pin). p.name) ps)) same (pins_rise (choice_of walk)),
+        subst (λ (ps : List Pin). IsStrictlySortedBy text_cmp (map (λ (p : Pin). p.name) ps)) same (pins_rise (choice_of walk)),
       )
 
   best_to : (found : Option (List Pin)) → Finds universe rules roots (Starts universe rules roots []) [] found → (pins : List Pin) → AreBest universe rules roots pins → chosen_from found ≡ Some pins

@@ -7,10 +7,11 @@ use Rattle.std.specs.FinMap.Entries.{below_all, by_order, is_sorted, put}
 use Rattle.std.specs.List.{AllByRecursion, list_any}
 use Rattle.std.specs.List.Sorted.{IsStrictlySortedBy}
 use Rattle.std.specs.Ordering.{eq_by_cmp}
+use Rattle.doc_tree.specs.Text.{text_cmp}
 use Rattle.version_rules.specs.declared.versions.Version.{Version}
 use Rattle.dep_solver.specs.declared.roots.Pin.{Pin}
 use Rattle.dep_solver.specs.Chosen.{as_keys, in_order, pins_of}
-use Rattle.dep_solver.specs.Names.{CookbookName, name_cmp, same_name}
+use Rattle.dep_solver.specs.Names.{CookbookName, same_name}
 use Rattle.dep_solver.specs.Solutions.{Choice, choice_of}
 use Rattle.dep_solver.proofs.ChoiceLemmas.{names_apart}
 use Rattle.dep_solver.proofs.WalkLemmas.{name_from_same}
@@ -36,29 +37,29 @@ module _ {X : Type 0} where
   no_entries (e ∷ es) none = absurd (omega (arith, none))
 
   -- an entry below the others goes first
-  put_first : (k : CookbookName) (v : X) (es : List (CookbookName × X)) → AllByRecursion (λ y. name_cmp k y ≡ Less) (map (λ (e : CookbookName × X). e.0) es) → put name_cmp k v es ≡ (k, v) ∷ es
+  put_first : (k : CookbookName) (v : X) (es : List (CookbookName × X)) → AllByRecursion (λ y. text_cmp k y ≡ Less) (map (λ (e : CookbookName × X). e.0) es) → put text_cmp k v es ≡ (k, v) ∷ es
   put_first k v [] below = refl
-  put_first k v (e ∷ es) below = ap (λ o. by_order o ((k, v) ∷ e ∷ es) ((e.0, v) ∷ es) (e ∷ put name_cmp k v es)) below.0
+  put_first k v (e ∷ es) below = ap (λ o. by_order o ((k, v) ∷ e ∷ es) ((e.0, v) ∷ es) (e ∷ put text_cmp k v es)) below.0
 
-  pub entries_rising : (es : List (CookbookName × X)) → IsStrictlySortedBy name_cmp (map (λ (e : CookbookName × X). e.0) es) → finite.entries (finite.from_entries {R = name_cmp} es) ≡ es
+  pub entries_rising : (es : List (CookbookName × X)) → IsStrictlySortedBy text_cmp (map (λ (e : CookbookName × X). e.0) es) → finite.entries (finite.from_entries {R = text_cmp} es) ≡ es
   unfolding IsStrictlySortedBy
-  entries_rising [] up = no_entries (finite.entries (finite.empty {X = X} {R = name_cmp})) (sym (finite.len-entries (finite.empty {X = X} {R = name_cmp})) ∙ finite.len-empty name_cmp X)
+  entries_rising [] up = no_entries (finite.entries (finite.empty {X = X} {R = text_cmp})) (sym (finite.len-entries (finite.empty {X = X} {R = text_cmp})) ∙ finite.len-empty text_cmp X)
   entries_rising (e ∷ es) up =
-      finite.entries-insert nat_list_cmp_total (finite.from_entries {R = name_cmp} es) e.0 e.1
-      ∙ ap (put name_cmp e.0 e.1) (entries_rising es up.1)
+      finite.entries-insert nat_list_cmp_total (finite.from_entries {R = text_cmp} es) e.0 e.1
+      ∙ ap (put text_cmp e.0 e.1) (entries_rising es up.1)
       ∙ put_first e.0 e.1 es up.0
 
-  below_each : (k : CookbookName) (es : List (CookbookName × X)) → T (below_all name_cmp k es) → AllByRecursion (λ y. name_cmp k y ≡ Less) (map (λ (e : CookbookName × X). e.0) es)
+  below_each : (k : CookbookName) (es : List (CookbookName × X)) → T (below_all text_cmp k es) → AllByRecursion (λ y. text_cmp k y ≡ Less) (map (λ (e : CookbookName × X). e.0) es)
   below_each k [] h = tt
-  below_each k (e ∷ es) h = (less_from (name_cmp k e.0) (first (is_lt (name_cmp k e.0)) (below_all name_cmp k es) h), below_each k es (second (is_lt (name_cmp k e.0)) (below_all name_cmp k es) h))
+  below_each k (e ∷ es) h = (less_from (text_cmp k e.0) (first (is_lt (text_cmp k e.0)) (below_all text_cmp k es) h), below_each k es (second (is_lt (text_cmp k e.0)) (below_all text_cmp k es) h))
 
-  rising_from : (es : List (CookbookName × X)) → T (is_sorted name_cmp es) → IsStrictlySortedBy name_cmp (map (λ (e : CookbookName × X). e.0) es)
+  rising_from : (es : List (CookbookName × X)) → T (is_sorted text_cmp es) → IsStrictlySortedBy text_cmp (map (λ (e : CookbookName × X). e.0) es)
   unfolding IsStrictlySortedBy
   rising_from [] h = tt
-  rising_from (e ∷ es) h = (below_each e.0 es (first (below_all name_cmp e.0 es) (is_sorted name_cmp es) h), rising_from es (second (below_all name_cmp e.0 es) (is_sorted name_cmp es) h))
+  rising_from (e ∷ es) h = (below_each e.0 es (first (below_all text_cmp e.0 es) (is_sorted text_cmp es) h), rising_from es (second (below_all text_cmp e.0 es) (is_sorted text_cmp es) h))
 
   -- the names of a finite map rise
-  pub keys_rise : (m : finite.FinMap name_cmp X) → IsStrictlySortedBy name_cmp (finite.keys m)
+  pub keys_rise : (m : finite.FinMap text_cmp X) → IsStrictlySortedBy text_cmp (finite.keys m)
   keys_rise m = rising_from (finite.entries m) (finite.entries_sorted m)
 
 -- ---- the pins of a choice
@@ -86,18 +87,18 @@ keys_of [] = refl
 keys_of (p ∷ pins) = ap (λ rest. p.name ∷ rest) (keys_of pins)
 
 -- the pins of a choice rise
-pub pins_rise : (choice : Choice) → IsStrictlySortedBy name_cmp (map (λ (p : Pin). p.name) (pins_of choice))
-pins_rise choice = subst (IsStrictlySortedBy name_cmp) (sym (names_of (finite.entries choice))) (keys_rise choice)
+pub pins_rise : (choice : Choice) → IsStrictlySortedBy text_cmp (map (λ (p : Pin). p.name) (pins_of choice))
+pins_rise choice = subst (IsStrictlySortedBy text_cmp) (sym (names_of (finite.entries choice))) (keys_rise choice)
 
 -- and are its own
 pub choice_back : (choice : Choice) → choice_of (pins_of choice) ≡ choice
 choice_back choice =
-    ap (λ (es : List (CookbookName × Version)). finite.from_entries {R = name_cmp} es) (entries_back (finite.entries choice))
-    ∙ finite.same_entries_map (finite.from_entries {R = name_cmp} (finite.entries choice)) choice (entries_rising (finite.entries choice) (keys_rise choice))
+    ap (λ (es : List (CookbookName × Version)). finite.from_entries {R = text_cmp} es) (entries_back (finite.entries choice))
+    ∙ finite.same_entries_map (finite.from_entries {R = text_cmp} (finite.entries choice)) choice (entries_rising (finite.entries choice) (keys_rise choice))
 
 -- pins whose names rise are those of their choice
-pub pins_of_rising : (pins : List Pin) → IsStrictlySortedBy name_cmp (map (λ (p : Pin). p.name) pins) → pins_of (choice_of pins) ≡ pins
-pins_of_rising pins up = ap (map pin_from) (entries_rising (map entry_of pins) (subst (IsStrictlySortedBy name_cmp) (sym (keys_of pins)) up)) ∙ pins_back pins
+pub pins_of_rising : (pins : List Pin) → IsStrictlySortedBy text_cmp (map (λ (p : Pin). p.name) pins) → pins_of (choice_of pins) ≡ pins
+pins_of_rising pins up = ap (map pin_from) (entries_rising (map entry_of pins) (subst (IsStrictlySortedBy text_cmp) (sym (keys_of pins)) up)) ∙ pins_back pins
 
 -- ---- names in order
 
@@ -108,7 +109,7 @@ keys_marked : (names : List CookbookName) → map (λ (e : CookbookName × Unit 
 keys_marked [] = refl
 keys_marked (n ∷ names) = ap (λ rest. n ∷ rest) (keys_marked names)
 
-any_tied : (q : CookbookName) (names : List CookbookName) → list_any (eq_by_cmp name_cmp q) names ≡ list_any (same_name q) names
+any_tied : (q : CookbookName) (names : List CookbookName) → list_any (eq_by_cmp text_cmp q) names ≡ list_any (same_name q) names
 any_tied q [] = refl
 any_tied q (n ∷ names) = λ i. sym (texts_ties q n) i || any_tied q names i
 
@@ -119,9 +120,9 @@ is_some_mark : (b : Bool) → is_some (mark b) ≡ b
 is_some_mark true = refl
 is_some_mark false = refl
 
-find_marked : (q : CookbookName) (names : List CookbookName) → finite.find name_cmp q (map marked names) ≡ cond (list_any (eq_by_cmp name_cmp q) names) (Some tt) None
+find_marked : (q : CookbookName) (names : List CookbookName) → finite.find text_cmp q (map marked names) ≡ cond (list_any (eq_by_cmp text_cmp q) names) (Some tt) None
 find_marked q [] = refl
-find_marked q (n ∷ names) = elim (eq_by_cmp name_cmp q n) as (λ b. cond b (Some tt) (finite.find name_cmp q (map marked names)) ≡ cond (b || list_any (eq_by_cmp name_cmp q) names) (Some tt) None) [
+find_marked q (n ∷ names) = elim (eq_by_cmp text_cmp q n) as (λ b. cond b (Some tt) (finite.find text_cmp q (map marked names)) ≡ cond (b || list_any (eq_by_cmp text_cmp q) names) (Some tt) None) [
   | true ↦ refl
   | false ↦ find_marked q names
 ]
@@ -130,7 +131,7 @@ get_marked : (names : List CookbookName) (q : CookbookName) → finite.get (as_k
 get_marked names q = finite.get-from_entries nat_list_cmp_total (map marked names) q ∙ find_marked q names ∙ ap (λ b. cond b (Some tt) None) (any_tied q names)
 
 -- names in order rise
-pub in_order_rises : (names : List CookbookName) → IsStrictlySortedBy name_cmp (in_order names)
+pub in_order_rises : (names : List CookbookName) → IsStrictlySortedBy text_cmp (in_order names)
 unfolding in_order
 in_order_rises names = keys_rise (as_keys names)
 
@@ -151,9 +152,9 @@ pub to_in_order : (names : List CookbookName) (q : CookbookName) → Contains na
 to_in_order names q h = one_from names (in_order names) (λ r. sym (any_in_order names r)) q h
 
 -- names that rise are in order
-in_order_rising : (names : List CookbookName) → IsStrictlySortedBy name_cmp names → in_order names ≡ names
+in_order_rising : (names : List CookbookName) → IsStrictlySortedBy text_cmp names → in_order names ≡ names
 unfolding in_order
-in_order_rising names up = ap (map (λ (e : CookbookName × Unit {0}). e.0)) (entries_rising (map marked names) (subst (IsStrictlySortedBy name_cmp) (sym (keys_marked names)) up)) ∙ keys_marked names
+in_order_rising names up = ap (map (λ (e : CookbookName × Unit {0}). e.0)) (entries_rising (map marked names) (subst (IsStrictlySortedBy text_cmp) (sym (keys_marked names)) up)) ∙ keys_marked names
 
 any_alike : (xs ys : List CookbookName) → ((n : CookbookName) → Contains xs n → Contains ys n) → ((n : CookbookName) → Contains ys n → Contains xs n) → (q : CookbookName) → list_any (same_name q) xs ≡ list_any (same_name q) ys
 any_alike xs ys to from q = by (list_any (same_name q) xs) (list_any (same_name q) ys) refl refl
@@ -167,10 +168,10 @@ any_alike xs ys to from q = by (list_any (same_name q) xs) (list_any (same_name 
     by false false e f = e ∙ sym f
 
 -- names that rise are those of another list in order, where both have the same names
-pub same_in_order : (names others : List CookbookName) → IsStrictlySortedBy name_cmp names → ((n : CookbookName) → Contains names n → Contains others n) → ((n : CookbookName) → Contains others n → Contains names n)
+pub same_in_order : (names others : List CookbookName) → IsStrictlySortedBy text_cmp names → ((n : CookbookName) → Contains names n → Contains others n) → ((n : CookbookName) → Contains others n → Contains names n)
     → names ≡ in_order others
 unfolding in_order
 same_in_order names others up to from =
     sym (in_order_rising names up)
-    ∙ ap (λ (m : finite.FinMap name_cmp (Unit {0})). finite.keys m) (finite.same_map nat_list_cmp_total names_apart (as_keys names) (as_keys others) (λ q.
+    ∙ ap (λ (m : finite.FinMap text_cmp (Unit {0})). finite.keys m) (finite.same_map nat_list_cmp_total names_apart (as_keys names) (as_keys others) (λ q.
     get_marked names q ∙ ap (λ b. cond b (Some tt) None) (any_alike names others to from q) ∙ sym (get_marked others q)))

@@ -8,7 +8,8 @@ use Rattle.std.proofs.lemmas.Slice.Eq.{bytes_eq-Decides}
 use Rattle.std.specs.Cmp.Lexicographic.{nat_list_eq_equiv, nat_list_cmp_total, texts_ties}
 use Rattle.std.specs.List.{dedup}
 use Rattle.std.specs.List.Sorted.{IsStrictlySortedBy}
-use Rattle.dep_solver.specs.Names.{CookbookName, name_cmp}
+use Rattle.doc_tree.specs.Text.{text_cmp}
+use Rattle.dep_solver.specs.Names.{CookbookName}
 use Rattle.dep_solver.specs.Refusals.{AreThose}
 use Rattle.dep_solver.proofs.ListLemmas.{nowhere}
 
@@ -56,9 +57,9 @@ module _ (P : CookbookName → Type 0) (xs : List CookbookName) where
       by n (inl k) p = Contains-append_left names (x ∷ []) n ((before.those n).1 (k, p))
       by n (inr e) p = subst (λ z. Contains (names ++ x ∷ []) z) e (Contains-push names x)
 
-  pub lists_all : (i : ℕ) (names sorted result : List CookbookName) → length xs ≤ i → ListsBefore i names → IsPermutation names sorted → IsSorted name_cmp sorted → result ≡ dedup bytes_eq sorted → AreThose P xs result
+  pub lists_all : (i : ℕ) (names sorted result : List CookbookName) → length xs ≤ i → ListsBefore i names → IsPermutation names sorted → IsSorted text_cmp sorted → result ≡ dedup bytes_eq sorted → AreThose P xs result
   lists_all i names sorted result past lists moved order is = record {
-    in_order = subst (IsStrictlySortedBy name_cmp) (sym is) (IsStrictlySortedBy-dedup nat_list_cmp_total texts_ties sorted order);
+    in_order = subst (IsStrictlySortedBy text_cmp) (sym is) (IsStrictlySortedBy-dedup nat_list_cmp_total texts_ties sorted order);
     those = λ n. (
       λ h. let b = (lists.those n).0 (Contains-permutation sorted names n (IsPermutation-sym names sorted moved) (Contains-from_dedup bytes_eq sorted n (subst (λ zs. Contains zs n) is h))) in
           (subst (λ zs. Contains zs n) (take_all i xs past) b.0, b.1),

@@ -9,6 +9,7 @@ use Rattle.std.specs.FinMap as finite
 use Rattle.std.specs.List.{IsDistinct}
 use Rattle.std.specs.List.Sorted.{IsStrictlySortedBy}
 use Rattle.std.specs.Ordering.{ordering_reverse, ordering_then}
+use Rattle.doc_tree.specs.Text.{text_cmp}
 use Rattle.version_rules.specs.declared.versions.Version.{Version}
 use Rattle.version_rules.specs.Order.{version_cmp}
 use Rattle.dep_solver.specs.declared.roots.Pin.{Pin}
@@ -17,7 +18,7 @@ use Rattle.dep_solver.specs.declared.rules.EnvRules.{EnvRules}
 use Rattle.dep_solver.specs.declared.search.Place.{Place}
 use Rattle.dep_solver.specs.declared.universe.Universe.{Universe}
 use Rattle.dep_solver.specs.Best.{IsBest}
-use Rattle.dep_solver.specs.Names.{CookbookName, name_cmp, same_name}
+use Rattle.dep_solver.specs.Names.{CookbookName, same_name}
 use Rattle.dep_solver.specs.Search.{FindsBest, pin_cmp, pin_of}
 use Rattle.dep_solver.specs.Solutions.{choice_of}
 use Rattle.dep_solver.proofs.ChoiceLemmas.{choice_found, choice_has, names_apart}
@@ -64,10 +65,10 @@ less_name Less rest back apart up = refl
 less_name Equal rest back apart up = absurd (apart refl)
 less_name Greater rest back apart up = absurd (true≢false up)
 
-pub in_order : (universe : Universe) (rules : EnvRules) (roots : Roots) (places pins : List Pin) → FindsBest universe rules roots places → IsPermutation places pins → IsSorted pin_cmp pins → IsStrictlySortedBy name_cmp (map (λ (p : Pin). p.name) pins)
+pub in_order : (universe : Universe) (rules : EnvRules) (roots : Roots) (places pins : List Pin) → FindsBest universe rules roots places → IsPermutation places pins → IsSorted pin_cmp pins → IsStrictlySortedBy text_cmp (map (λ (p : Pin). p.name) pins)
 in_order universe rules roots places pins finds moved sorted =
     let distinct = moved_distinct places pins (names_distinct universe roots.names places roots.distinct finds.follow) moved in
-    sorted_from_rises (λ (p : Pin). p.name) name_cmp nat_list_cmp_total pins (length pins) (omega arith)
+    sorted_from_rises (λ (p : Pin). p.name) text_cmp nat_list_cmp_total pins (length pins) (omega arith)
     (λ k d below.
     let a = get_or pins k d in
     let b = get_or pins (k + 1) d in
@@ -77,6 +78,6 @@ in_order universe rules roots places pins finds moved sorted =
     let within : k + 1 < length names = omega (arith, length-map pins (λ (p : Pin). p.name)) in
     let apart : same_name a.name b.name ≡ false =
     subst (λ z. same_name a.name z ≡ false) second (subst (λ z. same_name z (get_or names (k + 1) d.name) ≡ false) first (apart_from_distinct same_name names k (k + 1) d.name distinct (omega arith) within)) in
-    less_name (name_cmp a.name b.name) Less (version_cmp b.version a.version)
+    less_name (text_cmp a.name b.name) Less (version_cmp b.version a.version)
     (λ e. true≢false (sym (same_from_name a.name b.name (names_apart a.name b.name e)) ∙ apart))
     (subst (λ o. is_lt (ordering_then o (version_cmp b.version a.version)) ≡ false) (nat_list_cmp_total.antisymm b.name a.name) (sorted k d (omega arith) below)))

@@ -3,6 +3,7 @@ use Rattle.std.specs.Prelude.{Bool, false, not, ◌+◌, ◌&&◌, ◌||◌, ℕ
 use Rattle.std.specs.FinMap as finite
 use Rattle.std.specs.List.{list_all, list_any}
 use Rattle.std.specs.Ordering.{is_le, is_lt}
+use Rattle.doc_tree.specs.Text.{text_cmp}
 use Rattle.version_rules.specs.declared.constraints.Sign.{Sign}
 use Rattle.version_rules.specs.declared.constraints.Sign.TheVariants.{Equal, Less, Greater, AtMost, AtLeast, Close}
 use Rattle.version_rules.specs.declared.needs.Need.{Need}
@@ -14,7 +15,7 @@ use Rattle.dep_solver.specs.declared.roots.Pin.{Pin}
 use Rattle.dep_solver.specs.declared.roots.Roots.{Roots}
 use Rattle.dep_solver.specs.declared.rules.EnvRules.{EnvRules}
 use Rattle.dep_solver.specs.declared.universe.Universe.{Universe}
-use Rattle.dep_solver.specs.Names.{CookbookName, name_cmp, same_name}
+use Rattle.dep_solver.specs.Names.{CookbookName, same_name}
 use Rattle.dep_solver.specs.Solutions.{Choice, choice_of}
 use Rattle.dep_solver.specs.Universes.{cookbook_in, needs_in, releases_in, same_version}
 use Rattle.dep_solver.specs.Walks.{next}
@@ -85,7 +86,7 @@ unfoldable pub best_of : Universe → EnvRules → Roots → Option (List Pin)
 best_of universe rules roots = option_map (λ places. pins_of (choice_of places)) (find (is_solution universe rules roots) (all_walks universe roots))
 
 -- a finite map that has these names, and nothing at each
-abbrev pub as_keys : List CookbookName → finite.FinMap name_cmp (Unit {0})
+abbrev pub as_keys : List CookbookName → finite.FinMap text_cmp (Unit {0})
 as_keys names = finite.from_entries (map (λ name. (name, tt)) names)
 
 -- the names, in byte order and each once

@@ -1,6 +1,7 @@
 -- Laws of walks and of solutions.
 use Rattle.std.specs.Prelude.{◌≡◌, ◌↔◌, ◌⊎◌, List, [], ◌∷◌, ◌++◌, map, Some, None, IsTrue}
 use Rattle.std.specs.List.Sorted.{IsStrictlySortedBy}
+use Rattle.doc_tree.specs.Text.{text_cmp}
 use Rattle.version_rules.specs.declared.versions.Version.{Version}
 use Rattle.dep_solver.specs.declared.roots.Pin.{Pin}
 use Rattle.dep_solver.specs.declared.roots.Roots.{Roots}
@@ -8,7 +9,7 @@ use Rattle.dep_solver.specs.declared.rules.EnvRules.{EnvRules}
 use Rattle.dep_solver.specs.declared.universe.Universe.{Universe}
 use Rattle.dep_solver.specs.Best.{IsBest, IsBetter}
 use Rattle.dep_solver.specs.Chosen.{best_of, is_allowed, lacking, without_version}
-use Rattle.dep_solver.specs.Names.{CookbookName, name_cmp}
+use Rattle.dep_solver.specs.Names.{CookbookName}
 use Rattle.dep_solver.specs.Refusals.{AreThose, HasNoVersion, IsLacking}
 use Rattle.dep_solver.specs.Solutions.{Choice, IsAllowed, IsSolution, choice_of}
 use Rattle.dep_solver.specs.Walks.{IsWalk}
@@ -50,7 +51,7 @@ BestIsNoneBetter =
 
 -- pins are those of the best solution, in the byte order of their names
 abbrev pub AreBest : Universe → EnvRules → Roots → List Pin → Type 0
-AreBest universe rules roots pins = IsBest universe rules roots (choice_of pins) × IsStrictlySortedBy name_cmp (map (λ pin. pin.name) pins)
+AreBest universe rules roots pins = IsBest universe rules roots (choice_of pins) × IsStrictlySortedBy text_cmp (map (λ pin. pin.name) pins)
 
 -- the function gives the best solution, and none exactly where there is no solution
 abbrev pub BestOfIsTheBest : Type 0

@@ -11,7 +11,3 @@ CookbookName = List ℕ
 -- the two are one name
 abbrev pub same_name : CookbookName → CookbookName → Bool
 same_name = pointwise ◌==◌
-
--- the order of names, byte by byte
-abbrev pub name_cmp : CookbookName → CookbookName → Ordering
-name_cmp = slice_cmp nat_cmp

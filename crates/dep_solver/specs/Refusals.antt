@@ -1,6 +1,7 @@
 -- What a refusal tells: that there is no solution, and which roots have no version that can be chosen.
 use Rattle.std.specs.Prelude.{◌≡◌, ◌↔◌, List, Contains, None}
 use Rattle.std.specs.List.Sorted.{IsStrictlySortedBy}
+use Rattle.doc_tree.specs.Text.{text_cmp}
 use Rattle.version_rules.specs.declared.versions.Version.{Version}
 use Rattle.dep_solver.specs.declared.no_solution.NoSolution.{NoSolution}
 use Rattle.dep_solver.specs.declared.no_solution.NoSolution.TheVariants.{Unsolvable, NoMemory}
@@ -8,7 +9,7 @@ use Rattle.dep_solver.specs.declared.roots.Roots.{Roots}
 use Rattle.dep_solver.specs.declared.rules.EnvRules.{EnvRules}
 use Rattle.dep_solver.specs.declared.universe.Universe.{Universe}
 use Rattle.dep_solver.specs.Chosen.{best_of, lacking, without_version}
-use Rattle.dep_solver.specs.Names.{CookbookName, name_cmp}
+use Rattle.dep_solver.specs.Names.{CookbookName}
 use Rattle.dep_solver.specs.Solutions.{Choice, IsAllowed, IsSolution}
 use Rattle.dep_solver.specs.Universes.{cookbook_in}
 
@@ -23,7 +24,7 @@ pub record HasNoVersion (universe : Universe) (rules : EnvRules) (roots : Roots)
 
 -- these are, in byte order and each once, the names of which P holds
 pub record AreThose (P : CookbookName → Type 0) (names these : List CookbookName) : Type 0 where
-  pub in_order : IsStrictlySortedBy name_cmp these
+  pub in_order : IsStrictlySortedBy text_cmp these
   pub those : (name : CookbookName) → Contains these name ↔ (Contains names name × P name)
 
 -- no choice is a solution, and the two lists have the roots that the universe lacks and those without a version

@@ -16,11 +16,12 @@ use Rattle.dep_solver.specs.declared.universe.Cookbook.{Cookbook}
 use Rattle.dep_solver.specs.declared.universe.Release.{Release}
 use Rattle.dep_solver.specs.declared.universe.Universe.{Universe}
 use Rattle.dep_solver.specs.Best.{IsBest}
-use Rattle.dep_solver.specs.Names.{CookbookName, name_cmp, same_name}
+use Rattle.dep_solver.specs.Names.{CookbookName, same_name}
 use Rattle.dep_solver.specs.Solutions.{Choice, IsSolution, choice_of}
 use Rattle.dep_solver.specs.Universes.{releases_in}
 use Rattle.dep_solver.specs.Walks.{Follow, with_needs}
 use Rattle.std.specs.Borrow.{Bor}
+use Rattle.doc_tree.specs.Text.{text_cmp}
 use Rattle.doc_tree.specs.declared.name.Name.{Name}
 use Rattle.dep_solver.specs.declared.search.Search.{Search}
 
@@ -115,7 +116,7 @@ NoneFits universe rules roots dead places name releases given_up =
 
 -- the order of names and versions: by the name, and then by the version
 abbrev pub pin_cmp : Pin → Pin → Ordering
-pin_cmp p q = ordering_then (name_cmp p.name q.name) (version_cmp p.version q.version)
+pin_cmp p q = ordering_then (text_cmp p.name q.name) (version_cmp p.version q.version)
 
 -- the names behind references
 abbrev pub seen : List (Bor Name) → List CookbookName

@@ -1,6 +1,7 @@
 -- Solutions: the choices of versions that hold the roots and all that the chosen versions need, and nothing else.
 use Rattle.std.specs.Prelude.{◌≡◌, List, map, Contains, Some, IsSome}
 use Rattle.std.specs.FinMap as finite
+use Rattle.doc_tree.specs.Text.{text_cmp}
 use Rattle.version_rules.specs.declared.needs.Need.{Need}
 use Rattle.version_rules.specs.declared.versions.Version.{Version}
 use Rattle.version_rules.specs.Meets.{Meets}
@@ -8,12 +9,12 @@ use Rattle.dep_solver.specs.declared.roots.Pin.{Pin}
 use Rattle.dep_solver.specs.declared.roots.Roots.{Roots}
 use Rattle.dep_solver.specs.declared.rules.EnvRules.{EnvRules}
 use Rattle.dep_solver.specs.declared.universe.Universe.{Universe}
-use Rattle.dep_solver.specs.Names.{CookbookName, name_cmp}
+use Rattle.dep_solver.specs.Names.{CookbookName}
 use Rattle.dep_solver.specs.Universes.{needs_in, releases_in}
 
 -- a choice: a finite map from names to versions
 abbrev pub Choice : Type 0
-Choice = finite.FinMap name_cmp Version
+Choice = finite.FinMap text_cmp Version
 
 -- the choice that has the version of each of these names
 abbrev pub choice_of : List Pin → Choice

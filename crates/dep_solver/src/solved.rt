@@ -3,7 +3,6 @@ ghost use Rattle.std.specs.Prelude.{map};
 ghost use Rattle.std.specs.List.Sorted.{IsStrictlySortedBy};
 ghost use Rattle.std.proofs.Props.{props};
 ghost use Rattle.dep_solver.specs.Best.{IsBest};
-ghost use Rattle.dep_solver.specs.Names.{name_cmp};
 ghost use Rattle.dep_solver.specs.Solutions.{choice_of};
 
 use crate::no_solution::NoSolution;
@@ -23,7 +22,7 @@ pub struct Solved {
     pub roots: Roots,
     pub chosen: Pins,
     pub ghost best: { ∥ IsBest universe rules roots (choice_of chosen) ∥₁ },
-    pub ghost in_order: { IsStrictlySortedBy name_cmp (map (λ pin. pin.name) chosen) } by { Prim.hlevel props },
+    pub ghost in_order: { IsStrictlySortedBy text_cmp (map (λ pin. pin.name) chosen) } by { Prim.hlevel props },
 }
 
 impl Solved {
@@ -108,6 +107,7 @@ fn with_copies(
 
 ghost use Rattle.dep_solver.specs.Search.{FindsBest, pin_cmp, pin_of};
 ghost use Rattle.std.specs.List.Sorted.{IsPermutation, IsSorted};
+ghost use Rattle.doc_tree.specs.Text.{text_cmp};
 
 // The solution of these places.
 fn best_in_order(

@@ -3,7 +3,6 @@ ghost use Rattle.std.specs.Prelude.{map};
 ghost use Rattle.std.specs.List.Sorted.{IsStrictlySortedBy};
 ghost use Rattle.std.proofs.Props.{props};
 ghost use Rattle.version_rules.specs.Order.{version_cmp};
-ghost use Rattle.dep_solver.specs.Names.{name_cmp};
 
 use doc_tree::{Listed, Name, NoMemory};
 use std::alloc::Global;
@@ -14,7 +13,7 @@ use version_rules::{Need, Needs, Version, compare};
 pub struct Release {
     pub version: Version,
     pub needs: Needs,
-    pub ghost in_order: { IsStrictlySortedBy name_cmp (map (λ need. need.name) needs) } by { Prim.hlevel props },
+    pub ghost in_order: { IsStrictlySortedBy text_cmp (map (λ need. need.name) needs) } by { Prim.hlevel props },
 }
 
 /// Releases, in order: contracts see the list of them.
@@ -35,7 +34,7 @@ pub type Cookbooks = Listed<Cookbook>;
 #[derive(Drop)]
 pub struct Universe {
     pub cookbooks: Cookbooks,
-    pub ghost in_order: { IsStrictlySortedBy name_cmp (map (λ cookbook. cookbook.name) cookbooks) } by { Prim.hlevel props },
+    pub ghost in_order: { IsStrictlySortedBy text_cmp (map (λ cookbook. cookbook.name) cookbooks) } by { Prim.hlevel props },
 }
 
 impl Release {
@@ -43,7 +42,7 @@ impl Release {
 
     /// The release of a version with these needs, or `None` exactly where the needed names don't rise in byte order.
     pub fn of(version: Version, needs: Needs) -> Option<Release>
-        ensures in_order { IsSome result ↔ IsStrictlySortedBy name_cmp (map (λ need. need.name) needs) }
+        ensures in_order { IsSome result ↔ IsStrictlySortedBy text_cmp (map (λ need. need.name) needs) }
         ensures version { IfSome result (λ release. release.version ≡ version) }
         ensures needs { IfSome result (λ release. release.needs ≡ needs) }
     {
@@ -97,7 +96,7 @@ impl Universe {
 
     /// The universe of these cookbooks, or `None` exactly where their names don't rise in byte order.
     pub fn of(cookbooks: Cookbooks) -> Option<Universe>
-        ensures in_order { IsSome result ↔ IsStrictlySortedBy name_cmp (map (λ cookbook. cookbook.name) cookbooks) }
+        ensures in_order { IsSome result ↔ IsStrictlySortedBy text_cmp (map (λ cookbook. cookbook.name) cookbooks) }
         ensures cookbooks { IfSome result (λ universe. universe.cookbooks ≡ cookbooks) }
     {
         if do_names_rise(cookbooks.as_slice()) {
@@ -122,9 +121,10 @@ impl Universe {
 }
 
 ghost use Rattle.std.specs.Prelude.{◌≡◌, ◌↔◌, IfOk, IsTrue};
+ghost use Rattle.doc_tree.specs.Text.{text_cmp};
 
 fn do_needs_rise(needs: &[Need]) -> bool
-    ensures { IsTrue result ↔ IsStrictlySortedBy name_cmp (map (λ need. need.name) needs.now) }
+    ensures { IsTrue result ↔ IsStrictlySortedBy text_cmp (map (λ need. need.name) needs.now) }
 {
     for index in 1..needs.len() {
         if needs[index - 1].name >= needs[index].name {
@@ -146,7 +146,7 @@ fn do_versions_rise(releases: &[Release]) -> bool
 }
 
 fn do_names_rise(cookbooks: &[Cookbook]) -> bool
-    ensures { IsTrue result ↔ IsStrictlySortedBy name_cmp (map (λ cookbook. cookbook.name) cookbooks.now) }
+    ensures { IsTrue result ↔ IsStrictlySortedBy text_cmp (map (λ cookbook. cookbook.name) cookbooks.now) }
 {
     for index in 1..cookbooks.len() {
         if cookbooks[index - 1].name >= cookbooks[index].name {

@@ -10,6 +10,7 @@ pub mod Number
 pub mod Part
 pub mod Place
 pub mod Read
+pub mod Text
 pub mod Tokens
 pub mod Tree
 pub mod Valid

@@ -1,5 +1,5 @@
 //! Text, which is always UTF-8 and compares by its bytes.
-ghost use Rattle.std.specs.Prelude.{◌≡◌, ◌==◌, IfOk, IsTrue, IsUtf8, ◌↔◌, length, string_bytes, Some, [], refl};
+ghost use Rattle.std.specs.Prelude.{◌≡◌, ◌==◌, ◌++◌, IfOk, IsTrue, IsUtf8, ◌↔◌, length, string_bytes, Some, [], refl};
 ghost use Rattle.std.specs.Ordering.{nat_cmp};
 ghost use Rattle.std.specs.Cmp.{partial_equiv_from_equiv};
 ghost use Rattle.std.specs.Cmp.Lexicographic.{pointwise, slice_cmp, nat_list_eq_equiv, nat_list_cmp_total, texts_po, texts_ties};
@@ -87,6 +87,16 @@ impl Text {
         ensures { IfOk result (λ t. t ≡ self.now) }
     {
         Text::from_str(alloc, self.as_str())
+    }
+
+    /// A text and another behind it, in a text of their own.
+    pub fn joined(alloc: Global, front: &str, rest: &str) -> Result<Text, NoMemory>
+        ensures { IfOk result (λ t. t ≡ front.now ++ rest.now) }
+    {
+        let mut text = String::with_capacity(alloc, front.len() + rest.len())?;
+        text.push_str(front)?;
+        text.push_str(rest)?;
+        Ok(Text::of(text))
     }
 
     /// The string, which is moved out.

@@ -99,9 +99,10 @@ impl Model for Fields {
 
 impl Tree {
     ghost use Rattle.doc_tree.specs.Part.{at};
+    ghost use Rattle.doc_tree.specs.Text.{text_of};
     ghost use Rattle.doc_tree.specs.Tree.{doc_of};
     ghost use Rattle.doc_tree.specs.Valid.{IsDoc};
-    ghost use Rattle.std.specs.Prelude.{◌≡◌, option_map};
+    ghost use Rattle.std.specs.Prelude.{◌≡◌, option_copied, option_map};
 
     /// Says what every tree keeps: its numbers are whole, its texts are UTF-8, and the keys of each of its dicts
     /// come once and in order. It does nothing.
@@ -122,6 +123,16 @@ impl Tree {
             Tree::Dict(fields) => {
                 let _entries = fields.as_slice();
             }
+        }
+    }
+
+    /// The text that the tree is, and `None` where it is anything else.
+    pub fn text(&self) -> Option<&Text>
+        ensures { option_copied result ≡ text_of (doc_of self.now) }
+    {
+        match self {
+            Tree::Words(text) => Some(text),
+            Tree::Null | Tree::Bool(_) | Tree::Whole(_) | Tree::List(_) | Tree::Dict(_) => None,
         }
     }
 

@@ -5,7 +5,7 @@ use Rattle.std.specs.Cmp.Lexicographic.{bytes_decides}
 use Rattle.host_tree.proofs.EntryLemmas.{same_host}
 use Rattle.host_tree.specs.Entries.{Entries, at}
 use Rattle.host_acts.specs.Acts as act
-use Rattle.host_acts.specs.Acts.{Act, ActsAreDetermined, HasCause, Updates, cause_above, cause_here, entry_after}
+use Rattle.host_acts.specs.Acts.{ActsAreDetermined, HasCause, Updates, cause_above}
 use Rattle.host_acts.specs.Tasks.{Task}
 use Rattle.host_acts.specs.declared.cause.Cause.{Cause}
 use Rattle.host_acts.specs.declared.verdict.Verdict.TheVariants.{UpToDate, Updated, Failed}

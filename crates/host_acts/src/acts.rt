@@ -43,8 +43,7 @@ pub fn perform<H: Host>(
 {
     match work_of(resource, action) {
         Some(work) => {
-            let path = Path::from_str(alloc, resource.path.as_str())?;
-            let verdict = perform_at(alloc, &path, &work, host)?;
+            let verdict = perform_at(alloc, &resource.path, &work, host)?;
             Ok(Some(verdict))
         }
         None => Ok(None),
@@ -58,8 +57,7 @@ fn perform_at<H: Host>(
     work: &Work<'_>,
     host: &mut H,
 ) -> Result<Verdict, HostFault>
-    requires normal { IsTrue (is_normal path.now) }
-    requires offered { Offers (H.offers host.old) (needs_for (work_in work.now)) }
+    requires { Offers (H.offers host.old) (needs_for (work_in work.now)) }
     ensures act { IfOk result (λ verdict. Tells (spec.ActsTo (task_at path.now (work_in work.now)) verdict) (H.tells host.old) (H.tells host.new)) }
     ensures part { OnErr result (Tells (spec.IsPart (task_at path.now (work_in work.now))) (H.tells host.old) (H.tells host.new)) }
     ensures offers { H.offers host.new ≡ H.offers host.old }

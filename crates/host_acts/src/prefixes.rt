@@ -1,5 +1,5 @@
 //! How missing prefixes of a path are made.
-ghost use Rattle.std.specs.Prelude.{◌≡◌, ◌<◌, ◌==◌, OnOk, OnErr, IsTrue, length, take, slice_index};
+ghost use Rattle.std.specs.Prelude.{◌≡◌, ◌<◌, OnOk, OnErr, length, take, slice_index};
 ghost use Rattle.host_acts.specs.Changes.{BuiltPart, BuiltUpTo, MakesPrefix};
 ghost use Rattle.host_acts.specs.Scanning.{BreaksAt};
 ghost use Rattle.host_acts.specs.declared.scanning.Obstacle.TheVariants as over;
@@ -7,7 +7,7 @@ ghost use Rattle.host_tree.specs.Acts.{CanMake};
 ghost use Rattle.host_tree.specs.Faults.{HasHostCause};
 ghost use Rattle.host_tree.specs.Told.{Told, Tells};
 
-use crate::scanning::{Break, Obstacle};
+use crate::scanning::Break;
 use host_tree::{Host, HostFault, Path};
 use std::alloc::Global;
 

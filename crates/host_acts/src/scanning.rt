@@ -1,9 +1,10 @@
 //! How the proper prefixes of a path are looked at, from the root on.
-ghost use Rattle.std.specs.Prelude.{◌≡◌, ◌≢◌, ◌<◌, IfOk, IfSome, None, length};
+ghost use Rattle.std.specs.Prelude.{◌≡◌, ◌≢◌, ◌<◌, IfOk, IfSome, IsTrue, None, length};
 ghost use Rattle.host_acts.specs.Scanning.{Scanned, obstacle_ending, obstacle_in};
 ghost use Rattle.host_tree.specs.Acts.{entry_of};
 ghost use Rattle.host_tree.specs.Entries.{IsHost};
 ghost use Rattle.host_tree.specs.Faults.{HasHostCause};
+ghost use Rattle.host_tree.specs.Paths.{is_normal};
 ghost use Rattle.host_tree.specs.Told.{Told};
 
 use host_tree::{Host, HostFault, Path, Seen};
@@ -34,6 +35,7 @@ pub(crate) fn scan<H: Host>(
 ) -> Result<Option<Break>, HostFault>
     ensures found { IfOk result (λ found. Told (H.tells host.old) (λ h. Scanned h path.now found)) }
     ensures first { IfOk result (λ found. IfSome found (λ b. 0 < b.end)) }
+    ensures normal { IsTrue (is_normal path.now) }
     ensures kept { H.tells host.new ≡ H.tells host.old }
     ensures offers { H.offers host.new ≡ H.offers host.old }
     ensures cause { HasHostCause (H.faults host.old) (H.faults host.new) result }

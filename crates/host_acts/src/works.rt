@@ -61,12 +61,12 @@ fn file_work(resource: &Resource, action: Action) -> Option<Work<'_>>
     match action {
         Action::Create => Some(Work::MakeFile {
             content: resource.content.as_ref(),
-            mode: stated_mode(resource),
+            mode: resource.mode,
             replaces_link: resource.force_unlink,
         }),
         Action::CreateIfMissing => Some(Work::MakeMissingFile {
             content: resource.content.as_ref(),
-            mode: stated_mode(resource),
+            mode: resource.mode,
         }),
         Action::Delete => Some(Work::RemoveFile),
         Action::Nothing => None,
@@ -78,7 +78,7 @@ fn directory_work(resource: &Resource, action: Action) -> Option<Work<'_>>
 {
     match action {
         Action::Create => Some(Work::MakeDirectory {
-            mode: stated_mode(resource),
+            mode: resource.mode,
             recursive: resource.recursive,
         }),
         Action::Delete => Some(Work::RemoveDirectory {
@@ -103,15 +103,6 @@ fn link_to(to: Option<&Text>) -> Option<Work<'_>>
 {
     match to {
         Some(to) => Some(Work::MakeLink { to }),
-        None => None,
-    }
-}
-
-fn stated_mode(resource: &Resource) -> Option<Mode>
-    ensures { result ≡ resource.now.mode }
-{
-    match resource.mode {
-        Some(mode) => Some(Mode::known(mode.bits())),
         None => None,
     }
 }

@@ -1,7 +1,7 @@
 //! Plans with the images that they are run over, twice, and what they come to.
 use attr_merge::{Layer, Merged, are_layers, merge};
 use converge::*;
-use doc_tree::{NoMemory, Text, json_text, read_json};
+use doc_tree::{NoMemory, json_text, read_json};
 use host_tree::{Caps, FaultyHost, Host, ImageHost};
 use resource_core::{Recipes, RunPlan, are_recipes, compile};
 use std::alloc::{AllocError, Global};
@@ -190,7 +190,7 @@ const CUT: &str =
 fn a_fault_at_each_call_leaves_the_first_acts(rt: HostRuntime) -> Result<(), Fail> {
     let alloc = rt.alloc();
     let mut told = String::new(alloc);
-    for call in 0..12 {
+    for call in 1..13 {
         told.push_str(cut_told(alloc, call)?.as_str())?;
         told.push_str(",")?;
     }

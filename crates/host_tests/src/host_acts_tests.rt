@@ -1,8 +1,8 @@
 //! Each cell of the table of acts, over a host in memory.
 use doc_tree::{Fields, NoMemory, Text, Tree, json_text, read_json};
 use host_acts::*;
-use host_tree::{Caps, FaultyHost, Host, HostFault, ImageFault, ImageHost};
-use resource_core::{Action, Actions, Entries, Mode, Path, Resource, ResourceType};
+use host_tree::{Caps, FaultyHost, Host, HostFault, ImageFault, ImageHost, Mode, Path};
+use resource_core::{Action, Actions, Entries, Resource, ResourceType};
 use std::alloc::{AllocError, Global};
 use std::test::Fail;
 
@@ -240,7 +240,7 @@ fn a_fault_leaves_the_parents_that_were_made(rt: HostRuntime) -> Result<(), Fail
         links: false,
         modes: true,
     };
-    let told = faulty_told(rt.alloc(), 2, caps)?;
+    let told = faulty_told(rt.alloc(), 3, caps)?;
     assert_eq!(rt;
         told.as_str(),
         r#"fault {"/p":{"mode":"0755","type":"directory"}}"#
@@ -254,7 +254,7 @@ fn a_stated_mode_needs_modes(rt: HostRuntime) -> Result<(), Fail> {
         links: true,
         modes: false,
     };
-    let told = faulty_told(rt.alloc(), 2, caps)?;
+    let told = faulty_told(rt.alloc(), 3, caps)?;
     assert_eq!(rt; told.as_str(), "lacks what it needs {}");
     Ok(())
 }

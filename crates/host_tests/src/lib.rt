@@ -10,8 +10,8 @@ mod host_acts_tests;
 #[cfg(test)]
 mod host_tree_tests;
 #[cfg(test)]
-mod layer_sources_tests;
-#[cfg(test)]
 mod notify_queue_tests;
 #[cfg(test)]
 mod resource_core_tests;
+#[cfg(test)]
+mod sources_tests;

@@ -1,6 +1,7 @@
 //! Recipes with the plan or the fault that they come to.
 use attr_merge::{Layer, Merged, are_layers, merge};
 use doc_tree::{NoMemory, Text, Texts, Tree, read_json};
+use host_tree::{Mode, Path};
 use resource_core::*;
 use std::alloc::{AllocError, Global};
 use std::test::Fail;

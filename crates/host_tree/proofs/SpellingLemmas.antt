@@ -4,10 +4,11 @@ use Rattle.std.proofs.lemmas.Bool.{and_parts, leb-true}
 use Rattle.std.proofs.lemmas.Option.{same_Some}
 use Rattle.std.specs.Cmp.Lexicographic.{bytes_decides}
 use Rattle.std.specs.Option.{option_or}
+use Rattle.doc_tree.specs.Text.{text_of}
 use Rattle.doc_tree.specs.Doc.{Doc, null, boolean, whole, words, list, dict, Pairs, no_pairs, then_pair, pairs_of}
 use Rattle.doc_tree.specs.Tree.{pair_of}
 use Rattle.doc_tree.specs.declared.tree.Field.{Field}
-use Rattle.host_tree.specs.Documents.{entry_doc, entry_in, pairs_entry, file_in, file_of, directory_in, link_in, words_in, mode_of, is_word, is_type}
+use Rattle.host_tree.specs.Documents.{entry_doc, entry_in, pairs_entry, file_in, file_of, directory_in, link_in, mode_of, is_word, is_type}
 use Rattle.host_tree.specs.Modes.{is_octal, mode_in, mode_text}
 use Rattle.host_tree.specs.declared.entry.Entry.{Entry}
 use Rattle.host_tree.specs.declared.entry.Entry.TheVariants.{File, Directory, Link}
@@ -76,7 +77,7 @@ word_back word (words text) is = ap words ((bytes_decides text word).0 is)
 word_back word (list ds) is = cc
 word_back word (dict ps) is = cc
 
-words_back : (d : Doc) (text : List ℕ) → words_in d ≡ Some text → d ≡ words text
+words_back : (d : Doc) (text : List ℕ) → text_of d ≡ Some text → d ≡ words text
 words_back null text is = cc
 words_back (boolean b) text is = cc
 words_back (whole z) text is = cc
@@ -95,7 +96,7 @@ mode_back (dict ps) mode is = cc
 type_back : (word k : List ℕ) (d : Doc) → is_type word k d ≡ true → (k ≡ codes "type") × (d ≡ words word)
 type_back word k d is = let parts = and_parts (bytes_eq k (codes "type")) (is_word word d) is in ((bytes_decides k (codes "type")).0 parts.0, word_back word d parts.1)
 
-file_found : (content : Option (List ℕ)) (mode : Option ℕ) (d1 d2 : Doc) (e : Entry) → words_in d1 ≡ content → mode_of d2 ≡ mode → file_of content mode ≡ Some e
+file_found : (content : Option (List ℕ)) (mode : Option ℕ) (d1 d2 : Doc) (e : Entry) → text_of d1 ≡ content → mode_of d2 ≡ mode → file_of content mode ≡ Some e
     → entry_doc e ≡ dict (then_pair (codes "content") d1 (then_pair (codes "mode") d2 (then_pair (codes "type") (words (codes "file")) no_pairs)))
 file_found None mode d1 d2 e one two is = cc
 file_found (Some content) None d1 d2 e one two is = cc
@@ -112,13 +113,13 @@ none_cond false found y is = cc
 file_back : (k1 : List ℕ) (d1 : Doc) (k2 : List ℕ) (d2 : Doc) (k3 : List ℕ) (d3 : Doc) (e : Entry) → file_in k1 d1 k2 d2 k3 d3 ≡ Some e
     → entry_doc e ≡ dict (then_pair k1 d1 (then_pair k2 d2 (then_pair k3 d3 no_pairs)))
 file_back k1 d1 k2 d2 k3 d3 e is =
-    let found = none_cond (bytes_eq k1 (codes "content") && (bytes_eq k2 (codes "mode") && is_type (codes "file") k3 d3)) (file_of (words_in d1) (mode_of d2)) e is in
+    let found = none_cond (bytes_eq k1 (codes "content") && (bytes_eq k2 (codes "mode") && is_type (codes "file") k3 d3)) (file_of (text_of d1) (mode_of d2)) e is in
     let one = and_parts (bytes_eq k1 (codes "content")) (bytes_eq k2 (codes "mode") && is_type (codes "file") k3 d3) found.0 in
     let two = and_parts (bytes_eq k2 (codes "mode")) (is_type (codes "file") k3 d3) one.1 in
     let three = type_back (codes "file") k3 d3 two.1 in
     let first = (bytes_decides k1 (codes "content")).0 one.0 in
     let second = (bytes_decides k2 (codes "mode")).0 two.0 in
-    file_found (words_in d1) (mode_of d2) d1 d2 e refl refl found.1
+    file_found (text_of d1) (mode_of d2) d1 d2 e refl refl found.1
     ∙ ap (λ (k : List ℕ). dict (then_pair k d1 (then_pair (codes "mode") d2 (then_pair (codes "type") (words (codes "file")) no_pairs)))) (sym first)
     ∙ ap (λ (k : List ℕ). dict (then_pair k1 d1 (then_pair k d2 (then_pair (codes "type") (words (codes "file")) no_pairs)))) (sym second)
     ∙ ap (λ (k : List ℕ). dict (then_pair k1 d1 (then_pair k2 d2 (then_pair k (words (codes "file")) no_pairs)))) (sym three.0)
@@ -146,9 +147,9 @@ directory_back k1 d1 k2 d2 e is =
 
 link_back : (k1 : List ℕ) (d1 : Doc) (k2 : List ℕ) (d2 : Doc) (e : Entry) → link_in k1 d1 k2 d2 ≡ Some e → entry_doc e ≡ dict (then_pair k1 d1 (then_pair k2 d2 no_pairs))
 link_back k1 d1 k2 d2 e is =
-    let found = none_cond (bytes_eq k1 (codes "to") && is_type (codes "link") k2 d2) (option_map Link (words_in d1)) e is in
+    let found = none_cond (bytes_eq k1 (codes "to") && is_type (codes "link") k2 d2) (option_map Link (text_of d1)) e is in
     let parts = and_parts (bytes_eq k1 (codes "to")) (is_type (codes "link") k2 d2) found.0 in
-    let to = some_map Link (words_in d1) e found.1 in
+    let to = some_map Link (text_of d1) e found.1 in
     ap entry_doc (sym to.2) ∙ two_back (codes "link") (codes "to") k1 d1 k2 d2 (words to.0) parts.0 parts.1 (words_back d1 to.0 to.1)
 
 either_back : (one other : Option Entry) (e : Entry) (d : Doc) → (one ≡ Some e → entry_doc e ≡ d) → (other ≡ Some e → entry_doc e ≡ d) → option_or one other ≡ Some e → entry_doc e ≡ d

@@ -3,6 +3,7 @@ use Rattle.std.specs.Prelude.{ℕ, Bool, true, false, ◌&&◌, ◌||◌, ◌==�
 use Rattle.std.specs.FinMap as finite
 use Rattle.std.specs.List.{list_any}
 use Rattle.std.specs.Option.{option_or}
+use Rattle.doc_tree.specs.Text.{text_of}
 use Rattle.doc_tree.specs.Doc.{Doc, null, boolean, whole, words, list, dict, Pairs, no_pairs, then_pair, pairs_of, pairs_list}
 use Rattle.host_tree.specs.Entries.{Entries, at}
 use Rattle.host_tree.specs.Modes.{mode_in, mode_text}
@@ -25,15 +26,6 @@ abbrev pub image_of : Entries → Doc
 image_of host = dict (pairs_of (map doc_pair (finite.entries host)))
 
 -- ---- the entry of a document
-
--- the text that a document is
-abbrev pub words_in : Doc → Option (List ℕ)
-words_in null = None
-words_in (boolean b) = None
-words_in (whole z) = None
-words_in (words text) = Some text
-words_in (list ds) = None
-words_in (dict ps) = None
 
 -- the mode whose four octal digits a document is
 abbrev pub mode_of : Doc → Option ℕ
@@ -65,7 +57,7 @@ file_of (Some content) (Some mode) = Some (File content mode)
 -- the file that three pairs spell: `content`, `mode` and `type`
 abbrev pub file_in : List ℕ → Doc → List ℕ → Doc → List ℕ → Doc → Option Entry
 file_in k1 d1 k2 d2 k3 d3 =
-    if bytes_eq k1 (codes "content") && (bytes_eq k2 (codes "mode") && is_type (codes "file") k3 d3) then file_of (words_in d1) (mode_of d2) else None
+    if bytes_eq k1 (codes "content") && (bytes_eq k2 (codes "mode") && is_type (codes "file") k3 d3) then file_of (text_of d1) (mode_of d2) else None
 
 -- the directory that two pairs spell: `mode` and `type`
 abbrev pub directory_in : List ℕ → Doc → List ℕ → Doc → Option Entry
@@ -73,7 +65,7 @@ directory_in k1 d1 k2 d2 = if bytes_eq k1 (codes "mode") && is_type (codes "dire
 
 -- the link that two pairs spell: `to` and `type`
 abbrev pub link_in : List ℕ → Doc → List ℕ → Doc → Option Entry
-link_in k1 d1 k2 d2 = if bytes_eq k1 (codes "to") && is_type (codes "link") k2 d2 then option_map Link (words_in d1) else None
+link_in k1 d1 k2 d2 = if bytes_eq k1 (codes "to") && is_type (codes "link") k2 d2 then option_map Link (text_of d1) else None
 
 -- the entry that the pairs of a dict spell: these keys and no others
 abbrev pub pairs_entry : Pairs → Option Entry

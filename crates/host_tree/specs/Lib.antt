@@ -7,6 +7,5 @@ pub mod Below
 pub mod Image
 pub mod Modes
 pub mod Documents
-pub mod Failures
 pub mod Faulty
 pub mod Outcomes

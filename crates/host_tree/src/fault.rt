@@ -3,6 +3,7 @@ ghost use Rattle.std.specs.Prelude.{◌≡◌};
 ghost use Rattle.host_tree.specs.declared.fault.HostFault.TheVariants as fault;
 
 use doc_tree::NoMemory as NoMemoryError;
+use outside_core::Failed as Refused;
 use thiserror::Error;
 
 /// Why a host gives no answer.
@@ -21,5 +22,13 @@ impl From<NoMemoryError> for HostFault {
 
     fn from(_cause: NoMemoryError) -> HostFault {
         HostFault::NoMemory
+    }
+}
+
+impl From<Refused> for HostFault {
+    ghost from_gives = { λ _ e. e ≡ fault.Failed };
+
+    fn from(_cause: Refused) -> HostFault {
+        HostFault::Failed
     }
 }

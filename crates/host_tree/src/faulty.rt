@@ -2,12 +2,11 @@
 ghost use Rattle.std.specs.Prelude.{◌≡◌, ◌↔◌, IsTrue, IfOk, OnOk, OnErr, Some, Err};
 ghost use Rattle.host_tree.specs.Acts.{sight, CanWrite, CanMake, CanSetMode, CanRemove, with_file, with_directory, with_link, with_mode, without, LosesPart};
 ghost use Rattle.host_tree.specs.Entries.{at, has_below, IsHost};
-ghost use Rattle.host_tree.specs.Failures.{planned, is_due, after_call};
 ghost use Rattle.host_tree.specs.Faults.{HasHostCause};
 ghost use Rattle.host_tree.specs.declared.fault.HostFault.TheVariants as fault;
+ghost use Rattle.outside_core.specs.Failures.{planned, is_due, after_call};
 
 use crate::caps::Caps;
-use crate::failures::Failures;
 use crate::fault::HostFault;
 use crate::host::Host;
 use crate::image::ImageHost;
@@ -15,12 +14,13 @@ use crate::modes::Mode;
 use crate::paths::Path;
 use crate::seen::Seen;
 use doc_tree::Text;
+use outside_core::Failures;
 use std::alloc::Global;
 use std::marker::Model;
 
 /// A host in memory of which some calls fail, for trying what comes after a fault.
 ///
-/// Looks and changes are counted together, from 0 on; [`Host::caps`] isn't counted. A call that is to fail changes
+/// Looks and changes are counted together, from 1 on; [`Host::caps`] isn't counted. A call that is to fail changes
 /// nothing but the counts. Contracts see what it holds, what it offers and its failures.
 #[derive(Drop)]
 pub struct FaultyHost {

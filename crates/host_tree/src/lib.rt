@@ -4,7 +4,6 @@
 mod below;
 mod caps;
 mod entry;
-mod failures;
 mod fault;
 mod faulty;
 mod host;

@@ -1,5 +1,6 @@
 //! Modes of files and directories.
-ghost use Rattle.std.specs.Prelude.{◌≡◌, ◌≤◌, Some, None, nat_le, if◌then◌else◌};
+ghost use Rattle.std.specs.Prelude.{◌≡◌, ◌≤◌, ◌-◌, IsTrue, Some, None, nat_le, if◌then◌else◌};
+ghost use Rattle.host_tree.specs.Modes as spec;
 
 use std::marker::Model;
 
@@ -41,6 +42,17 @@ impl Mode {
         Mode { bits }
     }
 
+    /// The mode that four octal digits spell, or `None` exactly where one of these bytes is no octal digit.
+    pub fn octal(a: u8, b: u8, c: u8, d: u8) -> Option<Mode>
+        ensures { result ≡ spec.octal_mode a b c d }
+    {
+        if is_octal(a) && is_octal(b) && is_octal(c) && is_octal(d) {
+            Mode::of(512 * digit(a) + 64 * digit(b) + 8 * digit(c) + digit(d))
+        } else {
+            None
+        }
+    }
+
     /// Its number.
     pub fn bits(self) -> u16
         ensures value { result ≡ self }
@@ -48,4 +60,18 @@ impl Mode {
     {
         self.bits
     }
+}
+
+fn is_octal(byte: u8) -> bool
+    ensures { result ≡ spec.is_octal byte }
+{
+    b'0' <= byte && byte <= b'7'
+}
+
+fn digit(byte: u8) -> u16
+    requires { IsTrue (spec.is_octal byte) }
+    ensures value { result ≡ byte - 48 }
+    ensures small { result ≤ 7 }
+{
+    u16::from(byte - b'0')
 }

@@ -37,16 +37,6 @@ impl Path {
         }
     }
 
-    /// A path of its own with the bytes of a text that is known to be normal. [`is_normal`] tests it.
-    pub fn from_str(alloc: Global, text: &str) -> Result<Path, NoMemory>
-        requires { IsTrue (spec.is_normal text.now) }
-        ensures { IfOk result (λ path. path ≡ text.now) }
-    {
-        Ok(Path {
-            text: Text::from_str(alloc, text)?,
-        })
-    }
-
     /// The path as a `str` that borrows it.
     pub fn as_str(&self) -> &str
         ensures value { result.now ≡ self.now }

@@ -1,8 +1,7 @@
 //! An image is read.
-ghost use Rattle.std.specs.Prelude.{◌≡◌, ◌↔◌, ◌⊎◌, ℕ, Bool, IfOk, OnOk, OnErr, IsTrue, None, cond, take, [], option_copied, bytes_eq};
+ghost use Rattle.std.specs.Prelude.{◌≡◌, ◌↔◌, ◌⊎◌, IfOk, IsTrue, None, cond, take, option_copied};
 ghost use Rattle.doc_tree.specs.Tree.{doc_of, pair_of};
 ghost use Rattle.doc_tree.specs.Valid.{InOrder};
-ghost use Rattle.std.specs.FinMap as finite;
 ghost use Rattle.std.specs.Map.{keys_of};
 ghost use Rattle.host_tree.specs.Acts.{IsReached};
 ghost use Rattle.host_tree.specs.Documents.{image_of, host_in, pairs_host, form_in, parent_of, is_slash, is_directory, has_parent};

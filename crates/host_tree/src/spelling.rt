@@ -1,10 +1,10 @@
 //! The entries that documents spell.
-ghost use Rattle.std.specs.Prelude.{◌≡◌, ◌≤◌, ◌-◌, IfOk, IsTrue, map, bytes_eq, codes, ◌&&◌, option_map, option_copied, [], ◌∷◌};
+ghost use Rattle.std.specs.Prelude.{◌≡◌, IfOk, map, bytes_eq, codes, ◌&&◌, option_map, option_copied, [], ◌∷◌};
 ghost use Rattle.host_tree.specs.declared.entry.Entry.TheVariants as entry;
-ghost use Rattle.doc_tree.specs.Doc.{dict, pairs_of};
+ghost use Rattle.doc_tree.specs.Doc.{pairs_of};
 ghost use Rattle.doc_tree.specs.Tree.{doc_of, pair_of};
 ghost use Rattle.host_tree.specs.Documents as spec;
-ghost use Rattle.host_tree.specs.Modes as octal;
+ghost use Rattle.host_tree.specs.Modes.{mode_in};
 
 use crate::entry::Entry;
 use crate::modes::Mode;
@@ -54,7 +54,7 @@ fn link_in(alloc: Global, to: &Field, kind: &Field) -> Result<Option<Entry>, NoM
     ensures { IfOk result (λ found. found ≡ spec.link_in to.now.key (doc_of to.now.tree) kind.now.key (doc_of kind.now.tree)) }
 {
     if to.key.as_str() == "to" && is_type(kind, "link") {
-        if let Some(text) = words_in(&to.tree) {
+        if let Some(text) = to.tree.text() {
             return Ok(Some(Entry::Link {
                 to: text.copy(alloc)?,
             }));
@@ -72,7 +72,7 @@ fn file_in(
     ensures { IfOk result (λ found. found ≡ spec.file_in content.now.key (doc_of content.now.tree) mode.now.key (doc_of mode.now.tree) kind.now.key (doc_of kind.now.tree)) }
 {
     if are_file_keys(content, mode, kind) {
-        if let Some(text) = words_in(&content.tree) {
+        if let Some(text) = content.tree.text() {
             if let Some(mode) = mode_of(&mode.tree) {
                 return Ok(Some(Entry::File {
                     content: text.copy(alloc)?,
@@ -105,15 +105,6 @@ fn is_word(tree: &Tree, word: &str) -> bool
     }
 }
 
-fn words_in(tree: &Tree) -> Option<&Text>
-    ensures { option_copied result ≡ spec.words_in (doc_of tree.now) }
-{
-    match tree {
-        Tree::Words(text) => Some(text),
-        _ => None,
-    }
-}
-
 fn mode_of(tree: &Tree) -> Option<Mode>
     ensures { result ≡ spec.mode_of (doc_of tree.now) }
 {
@@ -124,30 +115,10 @@ fn mode_of(tree: &Tree) -> Option<Mode>
 }
 
 fn mode_in(digits: &[u8]) -> Option<Mode>
-    ensures { result ≡ octal.mode_in digits.now }
+    ensures { result ≡ mode_in digits.now }
 {
     match digits {
-        [a, b, c, d] => {
-            if is_octal(*a) && is_octal(*b) && is_octal(*c) && is_octal(*d) {
-                Mode::of(512 * digit(*a) + 64 * digit(*b) + 8 * digit(*c) + digit(*d))
-            } else {
-                None
-            }
-        }
+        [a, b, c, d] => Mode::octal(*a, *b, *c, *d),
         _ => None,
     }
-}
-
-fn is_octal(byte: u8) -> bool
-    ensures { result ≡ octal.is_octal byte }
-{
-    b'0' <= byte && byte <= b'7'
-}
-
-fn digit(byte: u8) -> u16
-    requires { IsTrue (octal.is_octal byte) }
-    ensures value { result ≡ byte - 48 }
-    ensures small { result ≤ 7 }
-{
-    u16::from(byte - b'0')
 }

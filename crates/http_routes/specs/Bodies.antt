@@ -5,19 +5,19 @@ use Rattle.doc_tree.specs.Tree.{tree_of}
 use Rattle.doc_tree.specs.Read.{reads}
 use Rattle.doc_tree.specs.declared.read.ReadFault.{ReadFault}
 use Rattle.doc_tree.specs.declared.read.ReadFault.TheVariants.{NotJson, TooDeep, NotWhole, NoMemory as NoMemoryToRead}
-use Rattle.org_core.specs.declared.requests.BadBody.TheVariants as bad
-use Rattle.org_core.specs.declared.requests.Body.{Body}
-use Rattle.org_core.specs.declared.requests.Body.TheVariants.{Empty, Doc as Read, Bad, Raw as Sent, TooLong}
-use Rattle.org_core.specs.declared.requests.Place.{Place}
-use Rattle.org_core.specs.declared.requests.Place.TheVariants.{Of, Organisations, LeftOut, NoRoute, NoMemory}
-use Rattle.org_core.specs.declared.requests.Request.{Request}
-use Rattle.org_core.specs.declared.routes.CookbookRoute.{CookbookRoute}
-use Rattle.org_core.specs.declared.routes.CookbookRoute.TheVariants.{Sandboxes, Sandbox, File, Cookbooks as AllCookbooks, Cookbook, Version, Universe, SolvedVersions}
-use Rattle.org_core.specs.declared.routes.Route.{Route}
-use Rattle.org_core.specs.declared.routes.Route.TheVariants.{Organisation, Objects, Data, Access, Cookbooks, Policies, Search}
-use Rattle.org_machine.specs.Heads.{head_refusal}
-use Rattle.route_table.specs.declared.verbs.Verb.{Verb}
-use Rattle.route_table.specs.declared.verbs.Verb.TheVariants.{Get, Post, Put, Delete, Other}
+use Rattle.org_requests.specs.declared.requests.BadBody.TheVariants as bad
+use Rattle.org_requests.specs.declared.requests.Body.{Body}
+use Rattle.org_requests.specs.declared.requests.Body.TheVariants.{Empty, Doc as Read, Bad, Raw as Sent, TooLong}
+use Rattle.org_requests.specs.declared.requests.Place.{Place}
+use Rattle.org_requests.specs.declared.requests.Place.TheVariants.{Of, Organisations, LeftOut, NoRoute, NoMethod, NoMemory}
+use Rattle.org_requests.specs.declared.requests.Request.{Request}
+use Rattle.org_requests.specs.Routes.{CookbookRoute}
+use Rattle.org_requests.specs.declared.routes.CookbookRouteOf.TheVariants.{File}
+use Rattle.org_requests.specs.Routes.{Route}
+use Rattle.org_requests.specs.declared.routes.RouteOf.TheVariants.{Cookbooks}
+use Rattle.org_requests.specs.Heads.{head_refusal}
+use Rattle.org_requests.specs.declared.verbs.Verb.{Verb}
+use Rattle.org_requests.specs.declared.verbs.Verb.TheVariants.{Get, Post, Put, Delete, Other}
 use Rattle.http_routes.specs.declared.bodies.BodyForm.{BodyForm}
 use Rattle.http_routes.specs.declared.bodies.BodyForm.TheVariants.{Dropped, Json, Raw}
 use Rattle.http_routes.specs.Places.{is_creation}
@@ -28,23 +28,13 @@ most_body = 4194304
 
 -- the route is that of a file
 abbrev pub is_file_route : CookbookRoute → Bool
-is_file_route Sandboxes = false
-is_file_route (Sandbox id) = false
 is_file_route (File checksum) = true
-is_file_route AllCookbooks = false
-is_file_route (Cookbook name) = false
-is_file_route (Version name version) = false
-is_file_route Universe = false
-is_file_route (SolvedVersions environment) = false
+is_file_route _ = false
 
+-- and so of all routes
 abbrev pub is_file_below : Route → Bool
-is_file_below (Organisation route) = false
-is_file_below (Objects collection route) = false
-is_file_below (Data route) = false
-is_file_below (Access route) = false
 is_file_below (Cookbooks route) = is_file_route route
-is_file_below (Policies route) = false
-is_file_below (Search route) = false
+is_file_below _ = false
 
 -- the place is that of a file of an organisation
 abbrev pub is_file : Place → Bool
@@ -52,6 +42,7 @@ is_file (Of org route) = is_file_below route
 is_file Organisations = false
 is_file LeftOut = false
 is_file NoRoute = false
+is_file (NoMethod org) = false
 is_file NoMemory = false
 
 -- the form of the body that is sent to a place by a method: by PUT to a file its bytes, else JSON (RFC 8259) by POST and

@@ -1,3 +1,4 @@
+pub mod Router
 pub mod Verbs
 pub mod Headers
 pub mod Connections

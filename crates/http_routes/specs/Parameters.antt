@@ -4,7 +4,7 @@ use Rattle.std.specs.Prelude.{◌==◌, ◌+◌, ℕ, List, drop, map}
 use Rattle.std.specs.List.{position_or_len}
 use Rattle.std.specs.Str.Lossy.{utf8_lossy}
 use Rattle.form_urlencoded.specs.Form.{raw_pairs, decode}
-use Rattle.org_core.specs.declared.requests.Parameter.{Parameter}
+use Rattle.org_requests.specs.declared.requests.Parameter.{Parameter}
 
 -- the query: the target behind the question mark
 abbrev pub query_in : List ℕ → List ℕ

@@ -1,8 +1,8 @@
 -- The request that the parts of a message spell: first its head, and then its body.
 use Rattle.std.specs.Prelude.{ℕ, List}
-use Rattle.org_core.specs.declared.requests.Body.{Body}
-use Rattle.org_core.specs.declared.requests.Body.TheVariants.{Empty}
-use Rattle.org_core.specs.declared.requests.Request.{Request}
+use Rattle.org_requests.specs.declared.requests.Body.{Body}
+use Rattle.org_requests.specs.declared.requests.Body.TheVariants.{Empty}
+use Rattle.org_requests.specs.declared.requests.Request.{Request}
 use Rattle.http_routes.specs.Verbs.{verb_named}
 use Rattle.http_routes.specs.Headers.{caller_in, api_in}
 use Rattle.http_routes.specs.Connections.{closes}
@@ -17,8 +17,8 @@ head_in method target callers versions connections = record {
   caller = caller_in callers;
   api = api_in versions;
   verb = verb_named method;
-  place = place_of (target_segments target);
-  asked = parameters_in target;
+  place = place_of (target_segments target) (verb_named method);
+  parameters = parameters_in target;
   body = Empty;
   close = closes connections;
 }

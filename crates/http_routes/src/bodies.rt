@@ -6,9 +6,8 @@ ghost use Rattle.std.specs.Prelude.{◌≡◌, IfOk, cond};
 
 use crate::places::is_creation;
 use doc_tree::{Bytes, NoMemory, ReadFault, read_json};
-use org_core::{BadBody, Body, CookbookRoute, Place, Request, Route};
-use org_machine::head_refusal;
-use route_table::Verb;
+use org_requests::routes::{CookbookRoute, Route};
+use org_requests::{BadBody, Body, Place, Request, Verb, head_refusal};
 use sandboxes::Hashed;
 use std::alloc::Global;
 

@@ -7,6 +7,7 @@ mod headers;
 mod parameters;
 mod places;
 mod requests;
+mod router;
 mod targets;
 mod verbs;
 
@@ -15,5 +16,6 @@ pub use connections::lists_close;
 pub use headers::{HeaderValue, api_of, caller_of};
 pub use parameters::parameters_of;
 pub use requests::Head;
+pub use router::Routes;
 pub use targets::segments_of;
 pub use verbs::verb_of;

@@ -5,7 +5,7 @@ ghost use Rattle.std.specs.Prelude.{◌≡◌, IfOk, map};
 
 use doc_tree::{NoMemory, Text};
 use form_urlencoded::parse;
-use org_core::{Parameter, Parameters};
+use org_requests::{Parameter, Parameters};
 use std::alloc::Global;
 
 /// The parameters of a target: what stands behind its first `?`, cut at each `&`, each with a name

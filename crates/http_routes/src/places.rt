@@ -1,140 +1,91 @@
-//! Where a path points, by its segments and the table of routes.
+//! Where a path points, by its segments, the method and the table of routes.
 ghost use Rattle.http_routes.specs.Places as spec;
-ghost use Rattle.http_routes.specs.Places.{nth_segment};
-ghost use Rattle.std.specs.Prelude.{◌≡◌, ℕ, List, IfOk, Some, option_copied};
-ghost use Rattle.std.specs.Vec.Iter.{into_iter_items};
+ghost use Rattle.org_requests.specs.Table.{target_of};
+ghost use Rattle.std.specs.Prelude.{◌≡◌, IfOk, Some, option_copied};
 
+use crate::router::Routes;
 use doc_tree::{NoMemory, Text, Texts, Tree, is_organisation_name};
-use org_core::{
-    AccessRoute, Body, Collection, CookbookRoute, DataRoute, ObjectsRoute, OrganisationRoute,
-    Place, PolicyRoute, Route, SearchRoute,
-};
-use route_table::{Path, Routes, Verb, is_left_out};
+use org_requests::routes::{OrganisationRoute, Route, RouteOf, nth};
+use org_requests::{Body, Place, Row, Verb, is_left_out};
 use std::alloc::Global;
-use std::vec::IntoIter;
 
-/// The place that the segments of a path name, which are moved into it: the path of the table of
-/// routes, with the names in it. A path that has no segments, `None`, has no route.
+// The number of the segment that names the organisation of a path.
+const ORGANISATION: usize = 1;
+
+/// The place that the segments of a path name, by a method: the route that the table of routes has, with
+/// the names of the path in it. A path that has no segments, `None`, has no route.
 pub(crate) fn place_of(
     alloc: Global,
     routes: &Routes,
     segments: Option<Texts>,
+    verb: Verb,
 ) -> Result<Place, NoMemory>
-    ensures { IfOk result (λ place. place ≡ spec.place_of segments) }
+    ensures { IfOk result (λ place. place ≡ spec.place_of segments verb) }
 {
     match segments {
-        Some(segments) => place_in(alloc, routes, segments),
+        Some(segments) => place_in(alloc, routes, segments.as_slice(), verb),
         None => Ok(Place::NoRoute),
     }
 }
 
-fn place_in(alloc: Global, routes: &Routes, segments: Texts) -> Result<Place, NoMemory>
-    ensures { IfOk result (λ place. place ≡ spec.place_of (Some segments)) }
+fn place_in(
+    alloc: Global,
+    routes: &Routes,
+    segments: &[Text],
+    verb: Verb,
+) -> Result<Place, NoMemory>
+    ensures { IfOk result (λ place. place ≡ spec.place_of (Some segments.now) verb) }
 {
-    if is_left_out(segments.as_slice()) {
+    if is_left_out(segments) {
         return Ok(Place::LeftOut);
     }
-    match routes.find(alloc, segments.as_slice())? {
-        Some(path) => Ok(place_at(alloc, path, segments)),
+    match routes.find(alloc, segments)? {
+        Some(row) => place_by(alloc, &row, segments, verb),
         None => Ok(Place::NoRoute),
     }
 }
 
-fn place_at(alloc: Global, path: Path, segments: Texts) -> Place
-    ensures { result ≡ spec.place_at path segments }
+// The place of a path of the table by a method.
+fn place_by(alloc: Global, row: &Row, segments: &[Text], verb: Verb) -> Result<Place, NoMemory>
+    ensures { IfOk result (λ place. place ≡ spec.place_by (target_of row.now) segments.now verb) }
 {
-    let mut segments = segments.into_vec().into_iter();
-    let org = following(alloc, &mut segments);
-    place_by(alloc, path, org, &mut segments)
-}
-
-// The next segment, or an empty text behind the last.
-fn next(alloc: Global, segments: &mut IntoIter<Text>) -> Text
-    ensures first { result ≡ spec.first_of (into_iter_items segments.old) }
-    ensures rest { into_iter_items segments.new ≡ spec.rest_of (into_iter_items segments.old) }
-{
-    match segments.next() {
-        Some(segment) => segment,
-        None => Text::of(String::new(alloc)),
+    if row.has_method(verb) {
+        place_named(alloc, &row.route, segments)
+    } else {
+        no_method(alloc, &row.route, segments)
     }
 }
 
-// The segment behind the next, of which the one is a word of the path and the other a name.
-fn following(alloc: Global, segments: &mut IntoIter<Text>) -> Text
-    ensures second { result ≡ nth_segment 1 (into_iter_items segments.old) }
-    ensures rest { into_iter_items segments.new ≡ spec.rest_of (spec.rest_of (into_iter_items segments.old)) }
+// A route of the organisation that the path names, or `/organizations`.
+fn place_named(
+    alloc: Global,
+    route: &Option<RouteOf<usize>>,
+    segments: &[Text],
+) -> Result<Place, NoMemory>
+    ensures { IfOk result (λ place. place ≡ spec.place_named route.now segments.now) }
 {
-    drop(next(alloc, segments));
-    next(alloc, segments)
+    match route {
+        Some(route) => {
+            let org = nth(alloc, ORGANISATION, segments)?;
+            Ok(of(org, route.named(alloc, segments)?))
+        }
+        None => Ok(Place::Organisations),
+    }
 }
 
-// The place of a path of the table in this organisation, by the segments behind its name.
-fn place_by(alloc: Global, path: Path, org: Text, segments: &mut IntoIter<Text>) -> Place
-    ensures { (all : List (List ℕ)) → org ≡ nth_segment 1 all → into_iter_items segments.old ≡ spec.rest_of (spec.rest_of all)
-        → result ≡ spec.place_at path all }
+// The path hasn't the method.
+fn no_method(
+    alloc: Global,
+    route: &Option<RouteOf<usize>>,
+    segments: &[Text],
+) -> Result<Place, NoMemory>
+    ensures { IfOk result (λ place. place ≡ Place.NoMethod (spec.org_named route.now segments.now)) }
 {
-    match path {
-        Path::Organisations => Place::Organisations,
-        Path::Organisation => of(org, Route::Organisation(OrganisationRoute::Whole)),
-        Path::Nodes => objects(org, Collection::Nodes, ObjectsRoute::All),
-        Path::Roles => objects(org, Collection::Roles, ObjectsRoute::All),
-        Path::Environments => objects(org, Collection::Environments, ObjectsRoute::All),
-        Path::Clients => objects(org, Collection::Clients, ObjectsRoute::All),
-        Path::Groups => access(org, AccessRoute::Groups),
-        Path::Node => objects(org, Collection::Nodes, one(alloc, segments)),
-        Path::Role => objects(org, Collection::Roles, one(alloc, segments)),
-        Path::Environment => objects(org, Collection::Environments, one(alloc, segments)),
-        Path::Client => objects(org, Collection::Clients, one(alloc, segments)),
-        Path::Group => access(org, AccessRoute::Group(following(alloc, segments))),
-        Path::Users => access(org, AccessRoute::Users),
-        Path::User => access(org, AccessRoute::User(following(alloc, segments))),
-        Path::Containers => access(org, AccessRoute::Containers),
-        Path::Container => access(org, AccessRoute::Container(following(alloc, segments))),
-        Path::AccessList => access(org, list(alloc, segments)),
-        Path::AccessEntry => access(org, entry(alloc, segments)),
-        Path::DataBags => of(org, Route::Data(DataRoute::Bags)),
-        Path::DataBag => of(org, Route::Data(DataRoute::Bag(following(alloc, segments)))),
-        Path::DataBagItem => of(
-            org,
-            Route::Data(DataRoute::Item(following(alloc, segments), next(alloc, segments))),
-        ),
-        Path::Sandboxes => cookbooks(org, CookbookRoute::Sandboxes),
-        Path::Sandbox => cookbooks(org, CookbookRoute::Sandbox(following(alloc, segments))),
-        Path::File => cookbooks(org, CookbookRoute::File(following(alloc, segments))),
-        Path::Cookbooks => cookbooks(org, CookbookRoute::Cookbooks),
-        Path::Cookbook => cookbooks(org, CookbookRoute::Cookbook(following(alloc, segments))),
-        Path::CookbookVersion => cookbooks(
-            org,
-            CookbookRoute::Version(following(alloc, segments), next(alloc, segments)),
-        ),
-        Path::Universe => cookbooks(org, CookbookRoute::Universe),
-        Path::Artifacts => policies(org, PolicyRoute::Artifacts),
-        Path::Artifact => policies(
-            org,
-            PolicyRoute::Artifact(following(alloc, segments), next(alloc, segments)),
-        ),
-        Path::SolvedVersions => cookbooks(
-            org,
-            CookbookRoute::SolvedVersions(following(alloc, segments)),
-        ),
-        Path::Policies => policies(org, PolicyRoute::Policies),
-        Path::Policy => policies(org, PolicyRoute::Policy(following(alloc, segments))),
-        Path::Revisions => policies(org, PolicyRoute::Revisions(following(alloc, segments))),
-        Path::Revision => policies(
-            org,
-            PolicyRoute::Revision(following(alloc, segments), following(alloc, segments)),
-        ),
-        Path::PolicyGroups => policies(org, PolicyRoute::Groups),
-        Path::PolicyGroup => policies(org, PolicyRoute::Group(following(alloc, segments))),
-        Path::Assignment => policies(
-            org,
-            PolicyRoute::Assignment(following(alloc, segments), following(alloc, segments)),
-        ),
-        Path::SearchIndexes => of(org, Route::Search(SearchRoute::Indexes)),
-        Path::Search => of(
-            org,
-            Route::Search(SearchRoute::Index(following(alloc, segments))),
-        ),
+    match route {
+        Some(_) => Ok(Place::NoMethod {
+            org: Some(nth(alloc, ORGANISATION, segments)?),
+        }),
+        None => Ok(Place::NoMethod { org: None }),
     }
 }
 
@@ -142,54 +93,6 @@ fn of(org: Text, route: Route) -> Place
     ensures { result ≡ Place.Of org route }
 {
     Place::Of { org, route }
-}
-
-fn objects(org: Text, collection: Collection, route: ObjectsRoute) -> Place
-    ensures { result ≡ Place.Of org (Route.Objects collection route) }
-{
-    of(org, Route::Objects(collection, route))
-}
-
-fn access(org: Text, route: AccessRoute) -> Place
-    ensures { result ≡ Place.Of org (Route.Access route) }
-{
-    of(org, Route::Access(route))
-}
-
-fn cookbooks(org: Text, route: CookbookRoute) -> Place
-    ensures { result ≡ Place.Of org (Route.Cookbooks route) }
-{
-    of(org, Route::Cookbooks(route))
-}
-
-fn policies(org: Text, route: PolicyRoute) -> Place
-    ensures { result ≡ Place.Of org (Route.Policies route) }
-{
-    of(org, Route::Policies(route))
-}
-
-// An object of a collection, by its name.
-fn one(alloc: Global, segments: &mut IntoIter<Text>) -> ObjectsRoute
-    ensures { result ≡ ObjectsRoute.One (nth_segment 1 (into_iter_items segments.old)) }
-{
-    ObjectsRoute::One(following(alloc, segments))
-}
-
-// The access list of an object.
-fn list(alloc: Global, segments: &mut IntoIter<Text>) -> AccessRoute
-    ensures { result ≡ AccessRoute.List (nth_segment 0 (into_iter_items segments.old)) (nth_segment 1 (into_iter_items segments.old)) }
-{
-    let collection = next(alloc, segments);
-    AccessRoute::List(collection, next(alloc, segments))
-}
-
-// One entry of it, by the permission.
-fn entry(alloc: Global, segments: &mut IntoIter<Text>) -> AccessRoute
-    ensures { result ≡ AccessRoute.Entry (nth_segment 0 (into_iter_items segments.old)) (nth_segment 1 (into_iter_items segments.old)) (nth_segment 3 (into_iter_items segments.old)) }
-{
-    let collection = next(alloc, segments);
-    let name = next(alloc, segments);
-    AccessRoute::Entry(collection, name, following(alloc, segments))
 }
 
 /// Whether a request to this place by this method creates an organisation, which its body names.

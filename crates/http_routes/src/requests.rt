@@ -9,11 +9,11 @@ use crate::bodies::{BodyForm, form_in};
 use crate::headers::{HeaderValue, api_of, caller_of};
 use crate::parameters::parameters_of;
 use crate::places::{place_of, place_with};
+use crate::router::Routes;
 use crate::targets::segments_of;
 use crate::verbs::verb_of;
 use doc_tree::NoMemory;
-use org_core::{Body, Request};
-use route_table::Routes;
+use org_requests::{Body, Request};
 use std::alloc::Global;
 
 /// What the head of a message says of its request: all but the body, by which a POST to
@@ -42,15 +42,15 @@ impl Head {
     {
         let verb = verb_of(method);
         let caller = caller_of(alloc, caller)?;
-        let asked = parameters_of(alloc, target)?;
-        let place = place_of(alloc, routes, segments_of(alloc, target)?)?;
+        let parameters = parameters_of(alloc, target)?;
+        let place = place_of(alloc, routes, segments_of(alloc, target)?, verb)?;
         Ok(Head {
             request: Request {
                 caller,
                 api: api_of(version),
                 verb,
                 place,
-                asked,
+                parameters,
                 body: Body::Empty,
                 close,
             },
@@ -80,7 +80,7 @@ fn with_body(alloc: Global, head: Request, body: Body) -> Result<Request, NoMemo
         api,
         verb,
         place,
-        asked,
+        parameters,
         body: _,
         close,
     } = head;
@@ -89,7 +89,7 @@ fn with_body(alloc: Global, head: Request, body: Body) -> Result<Request, NoMemo
         api,
         verb,
         place: place_with(alloc, place, verb, &body)?,
-        asked,
+        parameters,
         body,
         close,
     })

@@ -3,7 +3,7 @@ ghost use Rattle.http_routes.specs.Verbs.{verb_named};
 ghost use Rattle.std.specs.Prelude.{◌≡◌, bytes_eq};
 
 use http::Method;
-use route_table::Verb;
+use org_requests::Verb;
 
 /// The verb that a method stands for. Methods are case-sensitive: `get` is `Verb::Other`.
 pub fn verb_of(method: &[u8]) -> Verb

@@ -2,7 +2,7 @@
 use Rattle.std.proofs.Common.{◌≡◌, ℕ, List, [], ◌++◌, length, Result, Ok, Err, OnOk, OnErr, refl, sym, ap, ◌∙◌, append_assoc}
 use Rattle.std.specs.declared.option.Option.{Option}
 use Rattle.std.specs.Io.KnownBytes.{append_known}
-use Rattle.org_core.specs.declared.replies.Reply.{Reply}
+use Rattle.org_requests.specs.declared.replies.Reply.{Reply}
 use Rattle.http_wire.specs.Replies.{head_text, reply_text}
 use Rattle.outside_core.specs.Sink.{GainsPart, PassesOn}
 use Rattle.outside_core.proofs.SinkLemmas.{append_known-append}

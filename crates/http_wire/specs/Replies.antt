@@ -1,6 +1,6 @@
 -- The bytes of a reply (RFC 9112, sections 4 and 6; RFC 9110, section 15).
 use Rattle.std.specs.Prelude.{ℕ, Bool, List, [], ◌++◌, length, if◌then◌else◌, ◌==◌, codes, decimal}
-use Rattle.org_core.specs.declared.replies.Reply.{Reply}
+use Rattle.org_requests.specs.declared.replies.Reply.{Reply}
 
 -- the reason phrase of a status; it is empty where there is none here
 unfoldable pub phrase : ℕ → List ℕ

@@ -8,7 +8,7 @@ ghost use Rattle.http_wire.specs.Replies as spec;
 
 use arrayvec::ArrayVec;
 use itoa::Buffer;
-use org_core::Reply;
+use org_requests::Reply;
 use outside_core::{Buffered, Failed, Sink};
 
 /// The most bytes that the head of a reply has, with some to spare.

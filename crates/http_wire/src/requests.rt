@@ -3,14 +3,15 @@ ghost use Rattle.std.specs.Prelude.{◌≡◌, ℕ, ◌+◌, ◌-◌, ◌≤◌,
 ghost use Rattle.std.specs.Io.KnownBytes.{IsAtEnd, prepend_known};
 ghost use Rattle.httparse.specs.Grammar.{RequestHead};
 ghost use Rattle.httparse.specs.Spans.{IsRequestAt, IsRequestWithin};
-ghost use Rattle.org_core.specs.declared.requests.Request.{Request as Said};
+ghost use Rattle.org_requests.specs.declared.requests.Request.{Request as Said};
 ghost use Rattle.http_routes.specs.Bodies.{body_as, form_in};
 ghost use Rattle.http_routes.specs.Requests as spelled;
 ghost use Rattle.http_wire.specs.Bodies.{IsBody};
 ghost use Rattle.http_wire.specs.Faults.{OnNotAMessage, OnReadFault, NoneBeginsIn, HasReadCause};
 ghost use Rattle.http_wire.specs.Frames.{IsFramed};
 ghost use Rattle.http_wire.specs.Message.{Message, print_message, BeginsNone, NoneBegins, last_place};
-ghost use Rattle.http_wire.specs.Requests.{request_of, callers_in, versions_in, connections_in, IsRead};
+ghost use Rattle.http_wire.specs.Requests.{request_of, callers_in, versions_in, connections_in};
+ghost use Rattle.org_requests.specs.Requests.{IsRead};
 ghost use Rattle.http_wire.specs.Room.{stream};
 ghost use Rattle.http_wire.specs.Splits.{Takes, LosesFront};
 
@@ -21,11 +22,10 @@ use crate::frames::{Frame, begin_message, end_message};
 use crate::heads::MOST_HEADERS;
 use crate::room::Room;
 use doc_tree::NoMemory;
-use http_routes::{BodyForm, Head, body_of};
+use http_routes::{BodyForm, Head, Routes, body_of};
 use httparse::spans::{EMPTY_HEADER_SPAN, HeaderSpan, RequestSpans};
-use org_core::{Body, Parameters, Place, Request};
+use org_requests::{Body, Parameters, Place, Request, Verb};
 use outside_core::Source;
-use route_table::{Routes, Verb};
 use std::alloc::Global;
 
 /// Reads the next message of a stream to its end, as the request that it spells. `None` is the end
@@ -191,7 +191,7 @@ fn lost(alloc: Global) -> Request
         api: None,
         verb: Verb::Other,
         place: Place::NoMemory,
-        asked: Parameters::new(alloc),
+        parameters: Parameters::new(alloc),
         body: Body::Empty,
         close: false,
     }

@@ -7,8 +7,8 @@ ghost use Rattle.http_wire.specs.Room.{stream};
 
 use crate::faults::WireFault;
 use doc_tree::NoMemory;
+use http_routes::Routes;
 use outside_core::{Failed, Source};
-use route_table::Routes;
 use std::alloc::Global;
 use std::marker::Model;
 

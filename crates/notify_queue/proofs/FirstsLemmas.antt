@@ -1,6 +1,6 @@
 -- First occurrences, one list after another.
 use Rattle.std.proofs.Common.{◌≡◌, List, [], ◌∷◌, ◌++◌, refl}
-use Rattle.notify_queue.specs.Queue.{firsts, with_pair, with_pairs, OneMoreFirst}
+use Rattle.notify_queue.specs.Queue.{with_pair, with_pairs, OneMoreFirst}
 use Rattle.notify_queue.specs.declared.pair.Pair.{Pair}
 
 -- the pairs of two lists in order, behind those before

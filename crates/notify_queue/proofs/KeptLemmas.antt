@@ -1,12 +1,11 @@
 -- What contracts see of a queue, call by call.
-use Rattle.std.proofs.Common.{◌≡◌, ℕ, zero, suc, ◌+◌, ◌*◌, ◌<◌, ◌≤◌, min, Bool, true, false, List, [], ◌∷◌, length, map, Option, Some, None, option_map, slice_get, get_or, refl, sym, ap, subst, ◌∙◌, arith}
+use Rattle.std.proofs.Common.{◌≡◌, ℕ, zero, suc, ◌+◌, ◌*◌, ◌<◌, ◌≤◌, min, false, List, [], ◌∷◌, length, map, Some, None, option_map, slice_get, refl, sym, ap, subst, ◌∙◌, arith}
 use Rattle.std.proofs.lemmas.Option.{slice_get-map}
 use Rattle.std.proofs.lemmas.List.{length-map}
 use Rattle.notify_queue.specs.Kept.{IsKept, queued_in, walk}
 use Rattle.notify_queue.specs.Linked.{AreLinked, IsLinked, TakenFrom, link_to, next_in, pair_at, place_of, with_place, is_never}
-use Rattle.notify_queue.specs.Queue.{IsWithin, Queued, next, queue}
+use Rattle.notify_queue.specs.Queue.{IsWithin, next, queue}
 use Rattle.notify_queue.specs.declared.links.Link.{Link}
-use Rattle.notify_queue.specs.declared.links.Link.TheVariants.{Never, Last, Before}
 use Rattle.notify_queue.specs.declared.links.Links.{Links}
 use Rattle.notify_queue.specs.declared.pair.Pair.{Pair}
 use Rattle.notify_queue.proofs.LinkLemmas.{held, take_none, take_some}

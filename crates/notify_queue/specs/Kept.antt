@@ -3,7 +3,7 @@ use Rattle.std.specs.Prelude.{◌≡◌, ℕ, zero, suc, ◌*◌, List, [], ◌�
 use Rattle.notify_queue.specs.Linked.{IsLinked, next_in, pair_at}
 use Rattle.notify_queue.specs.Queue.{Queued}
 use Rattle.notify_queue.specs.declared.links.Link.{Link}
-use Rattle.notify_queue.specs.declared.links.Link.TheVariants.{Never, Last, Before}
+use Rattle.notify_queue.specs.declared.links.Link.TheVariants.{Never}
 use Rattle.notify_queue.specs.declared.links.Links.{Links}
 
 -- the places to which the table leads from one on, of which there are so many at most

@@ -1,5 +1,5 @@
 //! The table of the queue: for each place whether it was ever queued, and the place behind it.
-ghost use Rattle.std.specs.Prelude.{◌≡◌, ℕ, ◌<◌, List, IfOk, [], length, slice_index_or, option_map};
+ghost use Rattle.std.specs.Prelude.{◌≡◌, ℕ, ◌<◌, List, IfOk, [], length, slice_index_or};
 ghost use Rattle.notify_queue.specs.Linked as spec;
 
 use doc_tree::NoMemory;

@@ -1,1 +1,5 @@
+pub mod IndexLemmas
+mod ListLemmas
+mod FoundLemmas
+pub mod LawLemmas
 pub mod RoomLemmas

@@ -1,12 +1,11 @@
 //! What a finder is.
 ghost use Rattle.std.specs.Prelude.{◌≡◌, ℕ, Option, IfOk, OnOk, true, is_some, length, option_map};
 ghost use Rattle.doc_tree.specs.Valid.{InOrder};
-ghost use Rattle.search_scan.specs.Found.{found_in};
-ghost use Rattle.search_scan.specs.Indexes.{names_of};
-ghost use Rattle.search_scan.specs.Looks.{Looked};
 ghost use Rattle.object_finder.specs.Exact.{IsExact};
+ghost use Rattle.object_finder.specs.Found.{found_in};
 ghost use Rattle.object_finder.specs.Held.{Held, Room, HasRoom, LosesRoom, in_place, without_object};
-ghost use Rattle.object_finder.specs.Indexes.{index_of, is_plain};
+ghost use Rattle.object_finder.specs.Indexes.{index_of, is_plain, names_of};
+ghost use Rattle.object_finder.specs.Looks.{Looked};
 
 use crate::scopes::Scope;
 use doc_tree::{NoMemory, Steps, Text, Texts};

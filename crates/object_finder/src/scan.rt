@@ -2,6 +2,7 @@
 ghost use Rattle.std.specs.Prelude.{None};
 
 use crate::finder::Finder;
+use crate::found;
 use crate::indexes::index_of;
 use crate::scopes::Scope;
 use doc_tree::{NoMemory, Steps, Text, Texts};
@@ -43,6 +44,6 @@ impl Finder for ScanFinder {
         steps: &mut Steps<L>,
     ) -> Result<Texts, NoMemory> {
         let index = index_of(alloc, &scope.index)?;
-        search_scan::find(alloc, objects, &index, query, steps)
+        found::find(alloc, objects, &index, query, steps)
     }
 }

@@ -1,7 +1,6 @@
-pub mod GroupLemmas
+pub mod GroupBodiesLemmas
 pub mod NamedLemmas
 pub mod PairLemmas
 pub mod ReadBackLemmas
-pub mod RunListLemmas
 pub mod SettledLemmas
 pub mod StoredLemmas

@@ -13,7 +13,7 @@ use Rattle.object_forms.specs.Forms as forms
 use Rattle.object_forms.specs.Forms.{Form, stored, name_from}
 use Rattle.object_forms.specs.Kinds.{table, is_item}
 use Rattle.object_forms.specs.Objects.{key_of, name_row, name_form, rows, beside, made_of, object_of, object_from, by_table, is_no_id, body_of, item_in, name_in}
-use Rattle.object_forms.proofs.GroupLemmas.{group_again}
+use Rattle.object_forms.proofs.GroupBodiesLemmas.{group_again}
 use Rattle.object_forms.proofs.NamedLemmas.{same_Ok, none_named, apart, and_first, and_second, not_true, kept-fields, kept-taken}
 use Rattle.object_forms.proofs.PairLemmas.{pair_at-own}
 use Rattle.object_forms.proofs.SettledLemmas.{settled}

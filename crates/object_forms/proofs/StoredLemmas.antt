@@ -9,7 +9,7 @@ use Rattle.doc_tree.specs.declared.kind.Kind.TheVariants.{Org, Node, Role, Envir
 use Rattle.object_forms.specs.Fields.{sent, taken, then_do, fields_of}
 use Rattle.object_forms.specs.Forms.{is_text, is_id, name_from}
 use Rattle.object_forms.specs.Objects.{key_of, name_row, is_no_id, made_of, object_of, object_from, by_table, body_of, name_in, HasName}
-use Rattle.object_forms.proofs.GroupLemmas.{named_doc}
+use Rattle.object_forms.proofs.GroupBodiesLemmas.{named_doc}
 use Rattle.object_forms.proofs.NamedLemmas.{same_Ok, named_made}
 use Rattle.object_forms.proofs.PairLemmas.{pair_at-own}
 

@@ -1,8 +1,11 @@
 -- The forms of fields: which documents have a form, and what is stored of one that has.
-use Rattle.std.specs.Prelude.{ℕ, Bool, true, false, cond, not, ◌&&◌, List, [], ◌∷◌, Option, Some, None, option_map, option_and_then, bytes_eq, codes, is_ok}
-use Rattle.doc_tree.specs.Doc.{Doc, null, boolean, whole, words, list, dict, Docs, no_docs, then_doc, Pairs, no_pairs, then_pair, docs_of, pairs_of}
+use Rattle.std.specs.Prelude.{ℕ, Bool, true, false, cond, not, ◌&&◌, List, Option, Some, None, option_map, bytes_eq, codes, is_ok}
+use Rattle.doc_tree.specs.Doc.{Doc, null, boolean, whole, words, list, dict, Pairs, no_pairs, then_pair}
 use Rattle.doc_tree.specs.Name.{is_name}
-use Rattle.run_list.specs.Items.{reads_item, stored_text}
+use Rattle.run_lists.specs.ByName.{named_run_lists}
+use Rattle.run_lists.specs.Reading.{run_list_of}
+use Rattle.run_lists.specs.Storing.{by_name_doc, run_list_doc}
+use Rattle.run_lists.specs.declared.reading.Allowed.TheVariants.{Items}
 use Rattle.version_rules.specs.Constraints.{reads_constraint}
 
 -- a Name, the id of an item, any text, exactly this text, a truth value, a Dict, a list of items, a Dict from Names to
@@ -67,46 +70,13 @@ is_dict test (words text) = false
 is_dict test (list ds) = false
 is_dict test (dict ps) = test ps
 
--- an item of a run list as it is stored, if the document is the text of one
-abbrev pub stored_item : Doc → Option Doc
-stored_item null = None
-stored_item (boolean b) = None
-stored_item (whole z) = None
-stored_item (words text) = cond (is_ok (reads_item text)) (Some (words (stored_text text))) None
-stored_item (list ds) = None
-stored_item (dict ps) = None
-
--- these items as they are stored, if each is one
-abbrev pub stored_items : Docs → Option (List Doc)
-stored_items no_docs = Some []
-stored_items (then_doc d ds) = option_and_then (λ item. option_map (λ later. item ∷ later) (stored_items ds)) (stored_item d)
-
 -- a run list as it is stored, if the document is a list of items
 abbrev pub stored_run_list : Doc → Option Doc
-stored_run_list null = None
-stored_run_list (boolean b) = None
-stored_run_list (whole z) = None
-stored_run_list (words text) = None
-stored_run_list (list ds) = option_map (λ stored. list (docs_of stored)) (stored_items ds)
-stored_run_list (dict ps) = None
-
--- a run list as it is stored, if its key is a Name
-abbrev pub named_run_list : List ℕ → Doc → Option Doc
-named_run_list key d = cond (is_name key) (stored_run_list d) None
-
--- these keys, each with its run list as it is stored, if each key is a Name
-abbrev pub stored_run_lists : Pairs → Option (List (List ℕ × Doc))
-stored_run_lists no_pairs = Some []
-stored_run_lists (then_pair key d ps) = option_and_then (λ run_list. option_map (λ later. (key, run_list) ∷ later) (stored_run_lists ps)) (named_run_list key d)
+stored_run_list d = option_map run_list_doc (run_list_of d)
 
 -- a Dict from Names to run lists as it is stored
 abbrev pub stored_by_name : Doc → Option Doc
-stored_by_name null = None
-stored_by_name (boolean b) = None
-stored_by_name (whole z) = None
-stored_by_name (words text) = None
-stored_by_name (list ds) = None
-stored_by_name (dict ps) = option_map (λ made. dict (pairs_of made)) (stored_run_lists ps)
+stored_by_name d = option_map by_name_doc (named_run_lists Items d)
 
 -- the document as it was sent, if the test takes it
 abbrev pub kept : (Doc → Bool) → Doc → Option Doc

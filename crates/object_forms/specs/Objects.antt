@@ -5,7 +5,7 @@ use Rattle.doc_tree.specs.Part.{part_at, pair_at}
 use Rattle.doc_tree.specs.declared.kind.Kind.{Kind}
 use Rattle.object_forms.specs.Forms.{Form, a_name, an_id, exactly, a_dict, stored, name_from}
 use Rattle.object_forms.specs.Fields.{Row, field, fault, always, fields_of}
-use Rattle.object_forms.specs.Groups.{group_from}
+use Rattle.object_forms.specs.GroupBodies.{group_from}
 use Rattle.object_forms.specs.Kinds.{table, is_item, is_group}
 
 -- the field that names an object: `id` of an item, `groupname` of a group, and else `name`

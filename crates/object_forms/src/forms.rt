@@ -7,7 +7,7 @@ ghost use Rattle.object_forms.specs.Forms as spec;
 ghost use Rattle.object_forms.specs.Rows.{form_of};
 
 use crate::rows::Form;
-use crate::run_lists::{stored_by_name, stored_run_list};
+use crate::stored_lists::{stored_by_name, stored_run_list};
 use doc_tree::{Fields, NoMemory, Text, Tree, is_name};
 use std::alloc::Global;
 use version_rules::read_constraint;

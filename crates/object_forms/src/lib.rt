@@ -4,11 +4,11 @@
 mod fault;
 mod fields;
 mod forms;
-mod groups;
+mod group_bodies;
 mod laws;
 mod objects;
 mod rows;
-mod run_lists;
+mod stored_lists;
 mod tables;
 
 pub use fault::FormFault;

@@ -12,7 +12,7 @@ ghost use Rattle.object_forms.specs.Rows.{form_of, row_of};
 use crate::fault::{FormFault, bad_field};
 use crate::fields::{count_stored, fields_from, put_field};
 use crate::forms::{is_dict, is_exactly};
-use crate::groups::read_group;
+use crate::group_bodies::read_group;
 use crate::rows::{Absent, Form, Row};
 use crate::tables::table_of;
 use doc_tree::{Fields, Kind, Name, NoMemory, Tree};

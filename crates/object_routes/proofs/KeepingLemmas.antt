@@ -1,8 +1,8 @@
 -- What these groups do keeps the conditions of an organisation's state.
 use Rattle.std.proofs.Common.{◌≡◌, ℕ, List, [], ◌∷◌, Bool, true, false, not, ◌&&◌, IsTrue, IsFalse, IfSome, Option, Some, None, is_some, option_and_then, Result, Ok, Err, bytes_eq, codes, refl, sym, ap, subst, ◌∙◌}
 use Rattle.std.proofs.lemmas.Bool.{and_parts, or_parts}
+use Rattle.membership.specs.Actors.{is_actor}
 use Rattle.access_lists.specs.declared.starting.Container.TheVariants as container
-use Rattle.access_lists.specs.Strangers.{is_actor}
 use Rattle.std.specs.Cmp.Lexicographic.{bytes_decides}
 use Rattle.std.specs.Ordering.{eq_by_cmp}
 use Rattle.doc_tree.specs.Doc.{Doc}
@@ -18,27 +18,27 @@ use Rattle.object_forms.proofs.StoredLemmas.{named_from, id_from}
 use Rattle.object_store.specs.Items.{item_name}
 use Rattle.object_store.specs.Objects.{key, key_cmp}
 use Rattle.object_store.specs.declared.key.Key.{Key}
-use Rattle.route_table.specs.declared.verbs.Verb.{Verb}
-use Rattle.route_table.specs.declared.verbs.Verb.TheVariants.{Get, Post, Put, Delete, Other}
-use Rattle.org_core.specs.Collections.{kind_in}
+use Rattle.org_requests.specs.declared.verbs.Verb.{Verb}
+use Rattle.org_requests.specs.declared.verbs.Verb.TheVariants.{Get, Post, Put, Delete, Other}
+use Rattle.org_requests.specs.Collections.{kind_in}
 use Rattle.org_core.specs.Contexts.{Context, in_state}
 use Rattle.org_core.specs.Conditions.{MeetsConditions}
 use Rattle.org_core.specs.Keeping.{Anyone, Someone, LeadsToConditions, KeepsConditions}
 use Rattle.org_core.specs.Moves.{after_moves}
 use Rattle.org_core.specs.Needs.{if_named}
 use Rattle.org_core.specs.ObjectConditions.{has, IsNamed, IsItem, IsStored}
-use Rattle.org_core.specs.Refusals.{refuses}
+use Rattle.org_requests.specs.Refusals.{refuses}
 use Rattle.org_core.specs.States.{State, Organisation, has_object, membership_of}
-use Rattle.org_core.specs.declared.collections.Collection.{Collection}
-use Rattle.org_core.specs.declared.collections.Collection.TheVariants.{Nodes, Roles, Environments, Clients}
+use Rattle.org_requests.specs.declared.collections.Collection.{Collection}
+use Rattle.org_requests.specs.declared.collections.Collection.TheVariants.{Nodes, Roles, Environments, Clients}
 use Rattle.org_core.specs.declared.moves.Move.TheVariants as move
-use Rattle.org_core.specs.declared.refusals.Refusal.{Refusal}
-use Rattle.org_core.specs.declared.refusals.Refusal.TheVariants.{NotAllowed, AlreadyExists}
-use Rattle.org_core.specs.declared.requests.Body.{Body}
-use Rattle.org_core.specs.declared.routes.DataRoute.{DataRoute}
-use Rattle.org_core.specs.declared.routes.DataRoute.TheVariants as data_route
-use Rattle.org_core.specs.declared.routes.ObjectsRoute.{ObjectsRoute}
-use Rattle.org_core.specs.declared.routes.ObjectsRoute.TheVariants.{All, One}
+use Rattle.org_requests.specs.declared.refusals.Refusal.{Refusal}
+use Rattle.org_requests.specs.declared.refusals.Refusal.TheVariants.{NotAllowed, AlreadyExists}
+use Rattle.org_requests.specs.declared.requests.Body.{Body}
+use Rattle.org_requests.specs.Routes.{DataRoute}
+use Rattle.org_requests.specs.declared.routes.DataRouteOf.TheVariants as data_route
+use Rattle.org_requests.specs.Routes.{ObjectsRoute}
+use Rattle.org_requests.specs.declared.routes.ObjectsRouteOf.TheVariants.{All, One}
 use Rattle.org_core.proofs.ConditionsLemmas.{IsListedKey, created_known, create_keeps, create_client_keeps, replace_keeps, put_item_keeps, remove_keeps, remove_client_keeps, remove_item_keeps, remove_bag_keeps, start_keeps}
 use Rattle.org_core.proofs.ListedLemmas.{has_own_list}
 use Rattle.org_core.proofs.ReadLemmas.{IsRead, read_body, some_named, text_named}

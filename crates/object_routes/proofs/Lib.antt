@@ -3,3 +3,4 @@ pub mod KeepingLemmas
 pub mod OrderlyLemmas
 pub mod PlainLemmas
 pub mod ShelflessLemmas
+pub mod LawfulLemmas

@@ -7,8 +7,8 @@ use Rattle.org_core.proofs.MovesLemmas.{orderly_without}
 use Rattle.org_core.specs.Keeping.{IsOrderlyGroup}
 use Rattle.org_core.specs.Moves.{IsOrderly, arrivals}
 use Rattle.org_core.specs.States.{objects_of}
-use Rattle.org_core.specs.declared.collections.Collection.{Collection}
-use Rattle.org_core.specs.declared.collections.Collection.TheVariants.{Nodes, Roles, Environments, Clients}
+use Rattle.org_requests.specs.declared.collections.Collection.{Collection}
+use Rattle.org_requests.specs.declared.collections.Collection.TheVariants.{Nodes, Roles, Environments, Clients}
 use Rattle.org_core.specs.declared.moves.Move.{Move}
 use Rattle.org_core.specs.declared.moves.Move.TheVariants as move
 use Rattle.object_routes.specs.DataBags.{data_rules, bag_removal}

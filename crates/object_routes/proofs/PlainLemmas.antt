@@ -5,24 +5,24 @@ use Rattle.doc_tree.specs.Name.{is_name}
 use Rattle.doc_tree.specs.declared.kind.Kind.{Kind}
 use Rattle.doc_tree.specs.declared.kind.Kind.TheVariants as kinds
 use Rattle.object_store.specs.Items.{item_name}
-use Rattle.route_table.specs.declared.verbs.Verb.{Verb}
-use Rattle.route_table.specs.declared.verbs.Verb.TheVariants.{Get, Post, Put, Delete, Other}
+use Rattle.org_requests.specs.declared.verbs.Verb.{Verb}
+use Rattle.org_requests.specs.declared.verbs.Verb.TheVariants.{Get, Post, Put, Delete, Other}
 use Rattle.org_core.proofs.PlainLemmas.{body_plain, absent_plain, refuses_plain}
 use Rattle.org_core.specs.Bodies.{object_in_body}
-use Rattle.org_core.specs.Collections.{kind_in}
+use Rattle.org_requests.specs.Collections.{kind_in}
 use Rattle.org_core.specs.Contexts.{Context}
 use Rattle.org_core.specs.Plain.{IsPlain, RefusesPlainly, NeverForbids}
 use Rattle.org_core.specs.States.{has_object}
-use Rattle.org_core.specs.declared.collections.Collection.{Collection}
-use Rattle.org_core.specs.declared.refusals.Refusal.{Refusal}
-use Rattle.org_core.specs.declared.refusals.Refusal.TheVariants.{NotAllowed, AlreadyExists}
-use Rattle.org_core.specs.declared.requests.Body.{Body}
-use Rattle.org_core.specs.declared.routes.DataRoute.{DataRoute}
-use Rattle.org_core.specs.declared.routes.DataRoute.TheVariants as data_route
-use Rattle.org_core.specs.declared.routes.ObjectsRoute.{ObjectsRoute}
-use Rattle.org_core.specs.declared.routes.ObjectsRoute.TheVariants.{All, One}
-use Rattle.org_core.specs.declared.routes.OrganisationRoute.{OrganisationRoute}
-use Rattle.org_core.specs.declared.routes.OrganisationRoute.TheVariants.{Create, Whole}
+use Rattle.org_requests.specs.declared.collections.Collection.{Collection}
+use Rattle.org_requests.specs.declared.refusals.Refusal.{Refusal}
+use Rattle.org_requests.specs.declared.refusals.Refusal.TheVariants.{NotAllowed, AlreadyExists}
+use Rattle.org_requests.specs.declared.requests.Body.{Body}
+use Rattle.org_requests.specs.Routes.{DataRoute}
+use Rattle.org_requests.specs.declared.routes.DataRouteOf.TheVariants as data_route
+use Rattle.org_requests.specs.Routes.{ObjectsRoute}
+use Rattle.org_requests.specs.declared.routes.ObjectsRouteOf.TheVariants.{All, One}
+use Rattle.org_requests.specs.declared.routes.OrganisationRoute.{OrganisationRoute}
+use Rattle.org_requests.specs.declared.routes.OrganisationRoute.TheVariants.{Create, Whole}
 use Rattle.object_routes.specs.DataBags.{data_rules, data_asked, data_refusal, post_item, put_item, id_of}
 use Rattle.object_routes.specs.Objects.{objects_rules, objects_asked, objects_refusal, name_of, put_one, is_taken, is_fixed}
 use Rattle.object_routes.specs.Operations.{creating, replacing, creating_bag, creating_item, replacing_item}

@@ -6,8 +6,8 @@ use Rattle.object_store.specs.Objects.{key}
 use Rattle.org_core.specs.FileMoves.{takes_shelf_room, shelved_by}
 use Rattle.org_core.specs.Keeping.{NeverShelves}
 use Rattle.org_core.specs.States.{objects_of}
-use Rattle.org_core.specs.declared.collections.Collection.{Collection}
-use Rattle.org_core.specs.declared.collections.Collection.TheVariants.{Nodes, Roles, Environments, Clients}
+use Rattle.org_requests.specs.declared.collections.Collection.{Collection}
+use Rattle.org_requests.specs.declared.collections.Collection.TheVariants.{Nodes, Roles, Environments, Clients}
 use Rattle.org_core.specs.declared.moves.Move.{Move}
 use Rattle.org_core.specs.declared.moves.Move.TheVariants as move
 use Rattle.object_routes.specs.DataBags.{data_rules}

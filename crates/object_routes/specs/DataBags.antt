@@ -6,29 +6,30 @@ use Rattle.doc_tree.specs.Name.{is_name}
 use Rattle.doc_tree.specs.declared.kind.Kind.TheVariants as kinds
 use Rattle.object_store.specs.Items.{item_front, item_name, ids_in}
 use Rattle.object_store.specs.Objects.{Objects, key}
-use Rattle.route_table.specs.declared.verbs.Verb.{Verb}
-use Rattle.route_table.specs.declared.verbs.Verb.TheVariants.{Get, Post, Put, Delete, Other}
+use Rattle.org_requests.specs.declared.verbs.Verb.{Verb}
+use Rattle.org_requests.specs.declared.verbs.Verb.TheVariants.{Get, Post, Put, Delete, Other}
 use Rattle.org_core.specs.declared.moves.Move.{Move}
 use Rattle.org_core.specs.declared.moves.Move.TheVariants as move
 use Rattle.org_core.specs.declared.needs.Need.{Need}
 use Rattle.org_core.specs.declared.needs.Need.TheVariants.{Listed}
 use Rattle.access_lists.specs.declared.perm.Perm.TheVariants as permission
-use Rattle.org_core.specs.declared.requests.Body.{Body}
-use Rattle.org_core.specs.declared.routes.DataRoute.{DataRoute}
-use Rattle.org_core.specs.declared.routes.DataRoute.TheVariants.{Bags, Bag, Item}
-use Rattle.org_core.specs.declared.refusals.Refusal.{Refusal}
-use Rattle.org_core.specs.declared.refusals.Refusal.TheVariants.{NotAllowed, AlreadyExists}
+use Rattle.org_requests.specs.declared.requests.Body.{Body}
+use Rattle.org_requests.specs.Routes.{DataRoute}
+use Rattle.org_requests.specs.declared.routes.DataRouteOf.TheVariants.{Bags, Bag, Item}
+use Rattle.org_requests.specs.declared.refusals.Refusal.{Refusal}
+use Rattle.org_requests.specs.declared.refusals.Refusal.TheVariants.{NotAllowed, AlreadyExists}
 use Rattle.org_core.specs.Contexts.{Context}
 use Rattle.org_core.specs.Creating.{created_by, with_list}
-use Rattle.org_core.specs.Outcomes.{Told, Decided, shows, does_by, tells, reads}
-use Rattle.org_core.specs.Refusals.{refuses}
+use Rattle.org_core.specs.Outcomes.{Success, Decided, shows, does_by, tells, reads}
+use Rattle.org_requests.specs.Refusals.{refuses}
 use Rattle.org_core.specs.Named.{named_by}
-use Rattle.org_core.specs.Replies.{one_key, org_uri, paths_behind}
+use Rattle.org_requests.specs.Replies.{one_key, org_uri, paths_behind}
 use Rattle.org_core.specs.Rules.{Rules}
 use Rattle.org_core.specs.States.{State, objects_of, has_object}
 use Rattle.object_routes.specs.declared.operations.DataOperation.{DataOperation}
 use Rattle.object_routes.specs.declared.operations.DataOperation.TheVariants as operation
-use Rattle.org_core.specs.Bodies.{document_in, object_in_body, absent}
+use Rattle.org_core.specs.Bodies.{object_in_body}
+use Rattle.org_requests.specs.Documents.{document_in, absent}
 use Rattle.object_routes.specs.Objects.{name_of, lacks_named, found, listed, replaced, removed_by}
 use Rattle.object_routes.specs.Operations.{creating_bag, creating_item, replacing_item}
 
@@ -128,7 +129,7 @@ data_refusal context (operation.ReplaceItem bag id item) = None
 data_refusal context (operation.RemoveItem bag id) = None
 
 -- each item's id with its path
-abbrev pub items_listed : List ℕ → List ℕ → State → Told
+abbrev pub items_listed : List ℕ → List ℕ → State → Success
 items_listed org bag state = shows (paths_behind (bags_front org ++ item_front bag) (ids_in bag (objects_of state)))
 
 -- each of a bag's items goes, and then the bag with its access list

@@ -1,38 +1,39 @@
 -- The routes of nodes, roles, environments and clients: one rule for all four collections, and what
 -- one of them adds.
 use Rattle.std.specs.Prelude.{Bool, true, false, not, ◌||◌, ◌&&◌, ℕ, List, [], ◌∷◌, ◌++◌, Option, Some, None, codes, bytes_eq, Result, Ok, Err}
-use Rattle.access_lists.specs.Strangers.{is_actor}
+use Rattle.membership.specs.Actors.{is_actor}
 use Rattle.doc_tree.specs.Doc.{Doc, null}
 use Rattle.doc_tree.specs.Name.{is_name}
 use Rattle.doc_tree.specs.declared.kind.Kind.{Kind}
 use Rattle.doc_tree.specs.declared.kind.Kind.TheVariants as kinds
 use Rattle.object_store.specs.Objects.{key, names_in}
-use Rattle.route_table.specs.declared.verbs.Verb.{Verb}
-use Rattle.route_table.specs.declared.verbs.Verb.TheVariants.{Get, Post, Put, Delete, Other}
-use Rattle.org_core.specs.declared.collections.Collection.{Collection}
-use Rattle.org_core.specs.declared.collections.Collection.TheVariants.{Nodes, Roles, Environments, Clients}
+use Rattle.org_requests.specs.declared.verbs.Verb.{Verb}
+use Rattle.org_requests.specs.declared.verbs.Verb.TheVariants.{Get, Post, Put, Delete, Other}
+use Rattle.org_requests.specs.declared.collections.Collection.{Collection}
+use Rattle.org_requests.specs.declared.collections.Collection.TheVariants.{Nodes, Roles, Environments, Clients}
 use Rattle.org_core.specs.declared.moves.Move.{Move}
 use Rattle.org_core.specs.declared.moves.Move.TheVariants as move
 use Rattle.org_core.specs.declared.needs.Need.{Need}
 use Rattle.org_core.specs.declared.needs.Need.TheVariants.{Listed}
 use Rattle.access_lists.specs.declared.perm.Perm.TheVariants as permission
-use Rattle.org_core.specs.declared.requests.Body.{Body}
-use Rattle.org_core.specs.declared.routes.ObjectsRoute.{ObjectsRoute}
-use Rattle.org_core.specs.declared.routes.ObjectsRoute.TheVariants.{All, One}
-use Rattle.org_core.specs.declared.refusals.Refusal.{Refusal}
-use Rattle.org_core.specs.declared.refusals.Refusal.TheVariants.{NotAllowed, AlreadyExists}
-use Rattle.org_core.specs.Collections.{kind_in, segment_of, container_of}
+use Rattle.org_requests.specs.declared.requests.Body.{Body}
+use Rattle.org_requests.specs.Routes.{ObjectsRoute}
+use Rattle.org_requests.specs.declared.routes.ObjectsRouteOf.TheVariants.{All, One}
+use Rattle.org_requests.specs.declared.refusals.Refusal.{Refusal}
+use Rattle.org_requests.specs.declared.refusals.Refusal.TheVariants.{NotAllowed, AlreadyExists}
+use Rattle.org_requests.specs.Collections.{kind_in, segment_of, container_of}
 use Rattle.org_core.specs.Contexts.{Context}
 use Rattle.org_core.specs.Creating.{created_by, with_list}
 use Rattle.org_core.specs.Named.{named_by}
-use Rattle.org_core.specs.Outcomes.{Told, Decided, shows, does_by, tells, reads}
-use Rattle.org_core.specs.Refusals.{refuses}
-use Rattle.org_core.specs.Replies.{org_uri, paths_behind}
+use Rattle.org_core.specs.Outcomes.{Success, Decided, shows, does_by, tells, reads}
+use Rattle.org_requests.specs.Refusals.{refuses}
+use Rattle.org_requests.specs.Replies.{org_uri, paths_behind}
 use Rattle.org_core.specs.Rules.{Rules}
 use Rattle.org_core.specs.States.{State, objects_of, object_in, has_object, membership_of}
 use Rattle.object_routes.specs.declared.operations.ObjectsOperation.{ObjectsOperation}
 use Rattle.object_routes.specs.declared.operations.ObjectsOperation.TheVariants as operation
-use Rattle.org_core.specs.Bodies.{document_in, object_in_body, absent}
+use Rattle.org_core.specs.Bodies.{object_in_body}
+use Rattle.org_requests.specs.Documents.{document_in, absent}
 use Rattle.object_routes.specs.Operations.{creating, replacing}
 
 -- the front of the paths of a collection's objects
@@ -129,7 +130,7 @@ abbrev pub found : Kind → List ℕ → State → Doc
 found kind name state = or_null (object_in state kind name)
 
 -- the names of a kind's objects, each with its path behind this front
-unfoldable pub listed : List ℕ → Kind → State → Told
+unfoldable pub listed : List ℕ → Kind → State → Success
 listed front kind state = shows (paths_behind front (names_in kind (objects_of state)))
 
 -- who comes with an object of the collection: a client joins the group `clients`

@@ -1,7 +1,7 @@
 -- Operations by the object that was read for them.
 use Rattle.std.specs.Prelude.{ℕ, List, Result, Ok, Err}
 use Rattle.doc_tree.specs.Doc.{Doc}
-use Rattle.org_core.specs.declared.refusals.Refusal.{Refusal}
+use Rattle.org_requests.specs.declared.refusals.Refusal.{Refusal}
 use Rattle.object_routes.specs.declared.operations.ObjectsOperation.{ObjectsOperation}
 use Rattle.object_routes.specs.declared.operations.ObjectsOperation.TheVariants as objects
 use Rattle.object_routes.specs.declared.operations.DataOperation.{DataOperation}

@@ -1,27 +1,29 @@
 -- The routes of an organisation as a whole.
 use Rattle.std.specs.Prelude.{Bool, false, ℕ, List, [], ◌∷◌, ◌++◌, map, Option, None, codes, is_some, Result, Ok, Err}
+use Rattle.membership.specs.Members.{no_members}
+use Rattle.membership.specs.StartingGroups.{starting_groups}
 use Rattle.access_lists.specs.declared.starting.Container.{Container}
 use Rattle.access_lists.specs.declared.starting.Container.TheVariants as container
-use Rattle.access_lists.specs.Starting.{containers, name_of, no_members, starting_groups, starting_list}
+use Rattle.access_lists.specs.Starting.{containers, name_of, starting_list}
 use Rattle.doc_tree.specs.Doc.{Doc, words, dict, no_pairs, then_pair}
 use Rattle.doc_tree.specs.declared.kind.Kind.TheVariants.{Container as AContainer, Environment, Group}
 use Rattle.object_store.specs.Objects.{key}
-use Rattle.route_table.specs.declared.verbs.Verb.{Verb}
-use Rattle.route_table.specs.declared.verbs.Verb.TheVariants.{Get, Post, Put, Delete, Other}
+use Rattle.org_requests.specs.declared.verbs.Verb.{Verb}
+use Rattle.org_requests.specs.declared.verbs.Verb.TheVariants.{Get, Post, Put, Delete, Other}
 use Rattle.org_core.specs.declared.moves.Move.{Move}
 use Rattle.org_core.specs.declared.moves.Move.TheVariants as move
 use Rattle.org_core.specs.declared.needs.Need.{Need}
 use Rattle.org_core.specs.declared.needs.Need.TheVariants.{Operator}
 use Rattle.access_lists.specs.declared.perm.Perm.TheVariants as permission
-use Rattle.org_core.specs.declared.refusals.Refusal.{Refusal}
-use Rattle.org_core.specs.declared.refusals.Refusal.TheVariants.{AlreadyExists, NotAllowed}
-use Rattle.org_core.specs.declared.routes.OrganisationRoute.{OrganisationRoute}
-use Rattle.org_core.specs.declared.routes.OrganisationRoute.TheVariants.{Create, Whole}
+use Rattle.org_requests.specs.declared.refusals.Refusal.{Refusal}
+use Rattle.org_requests.specs.declared.refusals.Refusal.TheVariants.{AlreadyExists, NotAllowed}
+use Rattle.org_requests.specs.declared.routes.OrganisationRoute.{OrganisationRoute}
+use Rattle.org_requests.specs.declared.routes.OrganisationRoute.TheVariants.{Create, Whole}
 use Rattle.org_core.specs.Contexts.{Context}
 use Rattle.org_core.specs.Creating.{created_by}
 use Rattle.org_core.specs.Outcomes.{Decided, shows, tells}
-use Rattle.org_core.specs.Refusals.{refuses}
-use Rattle.org_core.specs.Replies.{org_uri, one_key}
+use Rattle.org_requests.specs.Refusals.{refuses}
+use Rattle.org_requests.specs.Replies.{org_uri, one_key}
 use Rattle.org_core.specs.Rules.{Rules}
 use Rattle.object_routes.specs.declared.operations.OrganisationOperation.{OrganisationOperation}
 use Rattle.object_routes.specs.declared.operations.OrganisationOperation.TheVariants as operation

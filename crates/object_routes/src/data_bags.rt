@@ -7,9 +7,9 @@ ghost use Rattle.object_store.specs.Items as items;
 ghost use Rattle.object_store.specs.Objects.{key};
 ghost use Rattle.org_core.specs.Contexts.{seen};
 ghost use Rattle.org_core.specs.Creating.{created_by, with_list};
-ghost use Rattle.org_core.specs.Outcomes.{Finds, Looked, shows, tells};
-ghost use Rattle.org_core.specs.Refusals.{Tells, refuses};
-ghost use Rattle.org_core.specs.Replies.{paths_behind};
+ghost use Rattle.org_core.specs.Outcomes.{IsAsDecided, Looked, shows, tells};
+ghost use Rattle.org_requests.specs.Refusals.{Tells, refuses};
+ghost use Rattle.org_requests.specs.Replies.{paths_behind};
 ghost use Rattle.org_core.specs.States.{has_object, objects_of, state_in};
 ghost use Rattle.object_routes.specs.DataBags as spec;
 ghost use Rattle.object_routes.specs.Objects as objects;
@@ -18,17 +18,16 @@ use crate::objects::{
     add_named, add_removal, lacks_named, listed, name_of, remove, replace, show, told_paths,
 };
 use crate::operations::DataOperation;
-use crate::prepared::{or_stop, with_moves};
 use access_lists::Container;
 use doc_tree::{Kind, NoMemory, Steps, Text, Tree, is_name};
 use object_finder::Finder;
 use object_store::Key;
 use org_core::{
-    Body, Context, DataRoute, Group, Lent, Move, Moves, Need, Needs, OrgState, Perm, Prepared,
-    Refusal, Request, Stop, Stored, absent, create_by, joined, listed_need, named_by,
-    object_in_body, object_named, one_move, org_uri, shown_key,
+    Context, Group, Lent, Move, Moves, Need, Needs, OrgState, Perm, Prepared, Stored, create_by,
+    listed_need, named_by, object_in_body, object_named, one_move, or_stop, with_moves,
 };
-use route_table::Verb;
+use org_requests::routes::DataRoute;
+use org_requests::{Body, Refusal, Request, Stop, Verb, absent, org_uri, shown_key};
 use std::alloc::Global;
 use std::sync::ledger::Ledger;
 
@@ -246,7 +245,7 @@ fn item_refusal(bag: &Text, item: &Stored, state: &OrgState) -> Option<Refusal>
 
 /// The bags are listed.
 fn list_bags(alloc: Global, context: Context<'_>) -> Result<Prepared, Stop>
-    ensures { Finds result (spec.data_does (seen context.entry) DataOperation.ListBags).answer }
+    ensures { IsAsDecided result (spec.data_does (seen context.entry) DataOperation.ListBags).answer }
 {
     let front = bags_front(alloc, context.org)?;
     or_stop(listed(alloc, &front, Kind::Bag, context.state))
@@ -254,7 +253,7 @@ fn list_bags(alloc: Global, context: Context<'_>) -> Result<Prepared, Stop>
 
 /// A bag is created.
 fn create_bag(alloc: Global, context: Context<'_>, object: Stored) -> Result<Prepared, Stop>
-    ensures { Finds result (spec.data_does (seen context.entry) (DataOperation.CreateBag object)).answer }
+    ensures { IsAsDecided result (spec.data_does (seen context.entry) (DataOperation.CreateBag object)).answer }
 {
     match bag_path(alloc, context.org, name_of(&object)) {
         Ok(path) => or_stop(bag_created(alloc, context, path, object)),
@@ -268,7 +267,7 @@ fn create_bag(alloc: Global, context: Context<'_>, object: Stored) -> Result<Pre
 fn bag_path(alloc: Global, org: &Text, name: &str) -> Result<Text, NoMemory>
     ensures { IfOk result (λ path. path ≡ spec.bags_front org.now ++ name.now) }
 {
-    joined(alloc, bags_front(alloc, org)?.as_str(), name)
+    Text::joined(alloc, bags_front(alloc, org)?.as_str(), name)
 }
 
 /// 201 with the path of a new bag, which comes with its access list.
@@ -278,7 +277,7 @@ fn bag_created(
     path: Text,
     object: Stored,
 ) -> Result<Prepared, NoMemory>
-    ensures { IfOk result (λ p. Finds (Ok p) (created_by path (with_list container.Data (seen context.entry) Kind.Bag (objects.name_of object) object)).answer) }
+    ensures { IfOk result (λ p. IsAsDecided (Ok p) (created_by path (with_list container.Data (seen context.entry) Kind.Bag (objects.name_of object) object)).answer) }
 {
     let mut moves = Moves::new(alloc);
     add_named(
@@ -294,7 +293,7 @@ fn bag_created(
 
 /// A bag's items are listed.
 fn list_items(alloc: Global, context: Context<'_>, bag: Text) -> Result<Prepared, Stop>
-    ensures { Finds result (spec.data_does (seen context.entry) (DataOperation.ListItems bag)).answer }
+    ensures { IsAsDecided result (spec.data_does (seen context.entry) (DataOperation.ListItems bag)).answer }
 {
     let front = items_front(alloc, context.org, &bag)?;
     or_stop(items_listed(alloc, &front, &bag, context.state))
@@ -304,7 +303,7 @@ fn items_front(alloc: Global, org: &Text, bag: &Text) -> Result<Text, NoMemory>
     ensures { IfOk result (λ front. front ≡ spec.bags_front org.now ++ items.item_front bag.now) }
 {
     let bags = bags_front(alloc, org)?;
-    joined(alloc, bags.as_str(), item_front(alloc, bag)?.as_str())
+    Text::joined(alloc, bags.as_str(), item_front(alloc, bag)?.as_str())
 }
 
 /// 200 with the ids of a bag's items, each with its path behind this front.
@@ -314,7 +313,7 @@ fn items_listed(
     bag: &Text,
     state: &OrgState,
 ) -> Result<Prepared, NoMemory>
-    ensures { IfOk result (λ p. Finds (Ok p) (tells (shows (paths_behind front.now (items.ids_in bag.now (objects_of (state_in state.now)))))).answer) }
+    ensures { IfOk result (λ p. IsAsDecided (Ok p) (tells (shows (paths_behind front.now (items.ids_in bag.now (objects_of (state_in state.now)))))).answer) }
 {
     let ids = state.ids(alloc, bag.as_str())?;
     told_paths(alloc, front, ids.as_slice())
@@ -327,7 +326,7 @@ fn create_item(
     bag: Text,
     item: Stored,
 ) -> Result<Prepared, Stop>
-    ensures { Finds result (spec.data_does (seen context.entry) (DataOperation.CreateItem bag item)).answer }
+    ensures { IsAsDecided result (spec.data_does (seen context.entry) (DataOperation.CreateItem bag item)).answer }
 {
     match item_place(alloc, context.org, &bag, id_of(&item)) {
         Ok((path, key)) => or_stop(item_created(alloc, path, key, item)),
@@ -345,12 +344,12 @@ fn item_place(alloc: Global, org: &Text, bag: &Text, id: &str) -> Result<(Text, 
 {
     let front = bags_front(alloc, org)?;
     let key = item_key(alloc, bag, id)?;
-    Ok((joined(alloc, front.as_str(), key.name.as_str())?, key))
+    Ok((Text::joined(alloc, front.as_str(), key.name.as_str())?, key))
 }
 
 /// 201 with the path of a new item.
 fn item_created(alloc: Global, path: Text, key: Key, item: Stored) -> Result<Prepared, NoMemory>
-    ensures { IfOk result (λ p. Finds (Ok p) (created_by path (Move.Put key item ∷ [])).answer) }
+    ensures { IfOk result (λ p. IsAsDecided (Ok p) (created_by path (Move.Put key item ∷ [])).answer) }
 {
     let moves = one_move(alloc, Move::Put(key, item))?;
     create_by(alloc, path, moves)
@@ -358,9 +357,9 @@ fn item_created(alloc: Global, path: Text, key: Key, item: Stored) -> Result<Pre
 
 /// A bag goes with its items.
 fn remove_bag(alloc: Global, context: Context<'_>, bag: Text) -> Result<Prepared, Stop>
-    ensures { Finds result (spec.data_does (seen context.entry) (DataOperation.RemoveBag bag)).answer }
+    ensures { IsAsDecided result (spec.data_does (seen context.entry) (DataOperation.RemoveBag bag)).answer }
 {
-    let moves = bag_removal(alloc, &bag, context.state)?;
+    let moves = bag_removal(alloc, &bag, context.state);
     or_stop(with_moves(shown_key(alloc, "name", Tree::Words(bag)), moves))
 }
 
@@ -404,7 +403,7 @@ fn show_item<L: Ledger>(
     id: Text,
     steps: &mut Steps<L>,
 ) -> Result<Prepared, Stop>
-    ensures done { Finds result (spec.data_does (seen context.entry) (DataOperation.ShowItem bag id)).answer }
+    ensures done { IsAsDecided result (spec.data_does (seen context.entry) (DataOperation.ShowItem bag id)).answer }
     ensures looked { Looked result (spec.data_does (seen context.entry) (DataOperation.ShowItem bag id)).looks steps.old steps.new }
 {
     or_stop(show(alloc, context.state.item(bag.as_str(), id.as_str(), steps)))
@@ -419,7 +418,7 @@ fn replace_item<L: Ledger>(
     item: Stored,
     steps: &mut Steps<L>,
 ) -> Result<Prepared, Stop>
-    ensures done { Finds result (spec.data_does (seen context.entry) (DataOperation.ReplaceItem bag id item)).answer }
+    ensures done { IsAsDecided result (spec.data_does (seen context.entry) (DataOperation.ReplaceItem bag id item)).answer }
     ensures looked { Looked result (spec.data_does (seen context.entry) (DataOperation.ReplaceItem bag id item)).looks steps.old steps.new }
 {
     let _replaced = context.state.item(bag.as_str(), id.as_str(), steps);
@@ -440,7 +439,7 @@ fn remove_item<L: Ledger>(
     id: Text,
     steps: &mut Steps<L>,
 ) -> Result<Prepared, Stop>
-    ensures done { Finds result (spec.data_does (seen context.entry) (DataOperation.RemoveItem bag id)).answer }
+    ensures done { IsAsDecided result (spec.data_does (seen context.entry) (DataOperation.RemoveItem bag id)).answer }
     ensures looked { Looked result (spec.data_does (seen context.entry) (DataOperation.RemoveItem bag id)).looks steps.old steps.new }
 {
     let moves = one_move(alloc, item_goes(alloc, &bag, &id)?)?;
@@ -452,14 +451,14 @@ fn remove_item<L: Ledger>(
 fn bags_front(alloc: Global, org: &Text) -> Result<Text, NoMemory>
     ensures { IfOk result (λ front. front ≡ spec.bags_front org.now) }
 {
-    joined(alloc, org_uri(alloc, org)?.as_str(), "/data/")
+    Text::joined(alloc, org_uri(alloc, org)?.as_str(), "/data/")
 }
 
 /// The front of the names under which a bag's items are kept.
 fn item_front(alloc: Global, bag: &Text) -> Result<Text, NoMemory>
     ensures { IfOk result (λ front. front ≡ items.item_front bag.now) }
 {
-    joined(alloc, bag.as_str(), "/")
+    Text::joined(alloc, bag.as_str(), "/")
 }
 
 /// The key under which an item is kept.
@@ -468,7 +467,7 @@ fn item_key(alloc: Global, bag: &Text, id: &str) -> Result<Key, NoMemory>
 {
     Ok(Key {
         kind: Kind::Item,
-        name: joined(alloc, item_front(alloc, bag)?.as_str(), id)?,
+        name: Text::joined(alloc, item_front(alloc, bag)?.as_str(), id)?,
     })
 }
 

@@ -6,10 +6,9 @@ mod laws;
 mod objects;
 mod operations;
 mod organisations;
-mod prepared;
 
 pub use data_bags::DataBags;
-pub use laws::{default_environment_is_read, groups_keep_conditions, groups_never_shelve};
+pub use laws::{default_environment_is_read, groups_are_lawful, new_organisations_meet_conditions};
 pub use objects::PlainObjects;
 pub use operations::{DataOperation, ObjectsOperation, OrganisationOperation};
 pub use organisations::Organisations;

@@ -8,25 +8,26 @@ ghost use Rattle.object_forms.specs.Kinds.{IsFormed};
 ghost use Rattle.object_store.specs.Objects.{key};
 ghost use Rattle.org_core.specs.Contexts.{seen};
 ghost use Rattle.org_core.specs.Creating.{created_by, with_list};
-ghost use Rattle.org_core.specs.Outcomes.{Finds, Looked, does_by, reads, shows, tells};
-ghost use Rattle.org_core.specs.Refusals.{Tells, refuses};
-ghost use Rattle.org_core.specs.Replies.{paths_behind};
+ghost use Rattle.org_core.specs.Outcomes.{IsAsDecided, Looked, does_by, reads, shows, tells};
+ghost use Rattle.org_requests.specs.Refusals.{Tells, refuses};
+ghost use Rattle.org_requests.specs.Replies.{paths_behind};
 ghost use Rattle.org_core.specs.States.{state_in};
 ghost use Rattle.object_routes.specs.Objects as spec;
 
 use crate::operations::ObjectsOperation;
-use crate::prepared::{or_stop, with_moves};
 use access_lists::Container;
 use doc_tree::{Kind, NoMemory, Steps, Text, Tree, is_name};
 use object_finder::Finder;
 use object_store::Key;
 use org_core::{
-    Body, Collection, Comer, Context, Group, Lent, Move, Moves, Need, Needs, ObjectsRoute,
-    OrgState, Perm, Prepared, Refusal, Request, Stop, Stored, absent, add_both, add_with_list,
-    create_by, joined, key_of, listed_need, named_by, object_in_body, object_named, one_move,
-    org_uri, shown, shown_paths,
+    Comer, Context, Group, Lent, Move, Moves, Need, Needs, OrgState, Perm, Prepared, Stored,
+    add_both, add_with_list, create_by, key_of, listed_need, named_by, object_in_body,
+    object_named, one_move, or_stop, with_moves,
 };
-use route_table::Verb;
+use org_requests::routes::ObjectsRoute;
+use org_requests::{
+    Body, Collection, Refusal, Request, Stop, Verb, absent, org_uri, shown, shown_paths,
+};
 use std::alloc::Global;
 use std::sync::ledger::Ledger;
 
@@ -251,7 +252,7 @@ fn is_fixed(collection: Collection, name: &str) -> bool
 
 /// The objects of a collection are listed.
 fn list(alloc: Global, context: Context<'_>, collection: Collection) -> Result<Prepared, Stop>
-    ensures { Finds result (spec.objects_does collection (seen context.entry) ObjectsOperation.List).answer }
+    ensures { IsAsDecided result (spec.objects_does collection (seen context.entry) ObjectsOperation.List).answer }
 {
     let front = objects_front(alloc, context.org, collection)?;
     or_stop(listed(alloc, &front, collection.kind(), context.state))
@@ -265,7 +266,7 @@ pub(crate) fn listed(
     kind: Kind,
     state: &OrgState,
 ) -> Result<Prepared, NoMemory>
-    ensures { IfOk result (λ p. Finds (Ok p) (tells (spec.listed front.now kind (state_in state.now))).answer) }
+    ensures { IfOk result (λ p. IsAsDecided (Ok p) (tells (spec.listed front.now kind (state_in state.now))).answer) }
 {
     let names = state.names(alloc, kind)?;
     told_paths(alloc, front, names.as_slice())
@@ -274,7 +275,7 @@ pub(crate) fn listed(
 /// 200 with each of these names and its path, which is the name behind this front.
 pub(crate) fn told_paths(alloc: Global, front: &Text, names: &[Text]) -> Result<Prepared, NoMemory>
     requires { InOrder names.now }
-    ensures { IfOk result (λ p. Finds (Ok p) (tells (shows (paths_behind front.now names.now))).answer) }
+    ensures { IfOk result (λ p. IsAsDecided (Ok p) (tells (shows (paths_behind front.now names.now))).answer) }
 {
     let reply = shown_paths(alloc, front.as_str(), names)?;
     Ok(Prepared {
@@ -301,7 +302,7 @@ fn create(
     collection: Collection,
     object: Stored,
 ) -> Result<Prepared, Stop>
-    ensures { Finds result (spec.objects_does collection (seen context.entry) (ObjectsOperation.Create object)).answer }
+    ensures { IsAsDecided result (spec.objects_does collection (seen context.entry) (ObjectsOperation.Create object)).answer }
 {
     match object_path(alloc, context.org, collection, name_of(&object)) {
         Ok(path) => or_stop(created_at(alloc, context, collection, path, object)),
@@ -320,7 +321,7 @@ fn object_path(
 ) -> Result<Text, NoMemory>
     ensures { IfOk result (λ path. path ≡ spec.objects_front org.now collection ++ name.now) }
 {
-    joined(alloc, objects_front(alloc, org, collection)?.as_str(), name)
+    Text::joined(alloc, objects_front(alloc, org, collection)?.as_str(), name)
 }
 
 /// 201 with the path of a new object.
@@ -331,7 +332,7 @@ fn created_at(
     path: Text,
     object: Stored,
 ) -> Result<Prepared, NoMemory>
-    ensures { IfOk result (λ p. Finds (Ok p) (created_by path (spec.creation collection (seen context.entry) (spec.name_of object) object)).answer) }
+    ensures { IfOk result (λ p. IsAsDecided (Ok p) (created_by path (spec.creation collection (seen context.entry) (spec.name_of object) object)).answer) }
 {
     let mut moves = Moves::new(alloc);
     add_creation(alloc, context, collection, object, &mut moves)?;
@@ -404,7 +405,7 @@ fn show_one<L: Ledger>(
     name: Text,
     steps: &mut Steps<L>,
 ) -> Result<Prepared, Stop>
-    ensures done { Finds result (spec.objects_does collection (seen context.entry) (ObjectsOperation.Show name)).answer }
+    ensures done { IsAsDecided result (spec.objects_does collection (seen context.entry) (ObjectsOperation.Show name)).answer }
     ensures looked { Looked result (spec.objects_does collection (seen context.entry) (ObjectsOperation.Show name)).looks steps.old steps.new }
 {
     let object = context
@@ -422,7 +423,7 @@ fn replace_one<L: Ledger>(
     object: Stored,
     steps: &mut Steps<L>,
 ) -> Result<Prepared, Stop>
-    ensures done { Finds result (spec.objects_does collection (seen context.entry) (ObjectsOperation.Replace name object)).answer }
+    ensures done { IsAsDecided result (spec.objects_does collection (seen context.entry) (ObjectsOperation.Replace name object)).answer }
     ensures looked { Looked result (spec.objects_does collection (seen context.entry) (ObjectsOperation.Replace name object)).looks steps.old steps.new }
 {
     let kind = collection.kind();
@@ -438,7 +439,7 @@ fn remove_one<L: Ledger>(
     name: Text,
     steps: &mut Steps<L>,
 ) -> Result<Prepared, Stop>
-    ensures done { Finds result (spec.objects_does collection (seen context.entry) (ObjectsOperation.Remove name)).answer }
+    ensures done { IsAsDecided result (spec.objects_does collection (seen context.entry) (ObjectsOperation.Remove name)).answer }
     ensures looked { Looked result (spec.objects_does collection (seen context.entry) (ObjectsOperation.Remove name)).looks steps.old steps.new }
 {
     let moves = removal(alloc, collection, &name)?;
@@ -488,7 +489,7 @@ fn add_goers(
 
 /// An object that was found to be there is shown.
 pub(crate) fn show(alloc: Global, object: Option<&Tree>) -> Result<Prepared, NoMemory>
-    ensures { IfOk result (λ p. Finds (Ok p) (reads (shows (spec.or_null (option_map (λ t. doc_of t.now) object.entry)))).answer) }
+    ensures { IfOk result (λ p. IsAsDecided (Ok p) (reads (shows (spec.or_null (option_map (λ t. doc_of t.now) object.entry)))).answer) }
 {
     let reply = shown(alloc, object.unwrap_or(&Tree::Null))?;
     Ok(Prepared {
@@ -499,10 +500,10 @@ pub(crate) fn show(alloc: Global, object: Option<&Tree>) -> Result<Prepared, NoM
 
 /// An object takes the place of the one of its key.
 pub(crate) fn replace(alloc: Global, key: Key, object: Stored) -> Result<Prepared, NoMemory>
-    ensures { IfOk result (λ p. Finds (Ok p) (spec.replaced key.kind key.name object).answer) }
+    ensures { IfOk result (λ p. IsAsDecided (Ok p) (spec.replaced key.kind key.name object).answer) }
 {
     let reply = shown(alloc, object.tree());
-    let moves = one_move(alloc, Move::Put(key, object))?;
+    let moves = one_move(alloc, Move::Put(key, object));
     with_moves(reply, moves)
 }
 
@@ -512,9 +513,9 @@ pub(crate) fn remove(
     object: Option<&Tree>,
     moves: Moves,
 ) -> Result<Prepared, NoMemory>
-    ensures { IfOk result (λ p. Finds (Ok p) (does_by (shows (spec.or_null (option_map (λ t. doc_of t.now) object.entry))) moves 1).answer) }
+    ensures { IfOk result (λ p. IsAsDecided (Ok p) (does_by (shows (spec.or_null (option_map (λ t. doc_of t.now) object.entry))) moves 1).answer) }
 {
-    with_moves(shown(alloc, object.unwrap_or(&Tree::Null)), moves)
+    with_moves(shown(alloc, object.unwrap_or(&Tree::Null)), Ok(moves))
 }
 
 /// The name of an object.

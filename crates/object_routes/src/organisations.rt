@@ -1,24 +1,27 @@
 //! The routes of an organisation as a whole.
 
 ghost use Rattle.std.specs.Prelude.{◌≡◌, [], ◌∷◌, ◌++◌, map, Ok, IfOk, OnOk};
-ghost use Rattle.access_lists.specs.Starting.{containers, starting_groups};
+ghost use Rattle.membership.specs.StartingGroups.{starting_groups};
+ghost use Rattle.access_lists.specs.Starting.{containers};
 ghost use Rattle.doc_tree.specs.Doc.{words, dict, no_pairs};
 ghost use Rattle.doc_tree.specs.Part.{with_pair};
 ghost use Rattle.org_core.specs.Contexts.{seen};
-ghost use Rattle.org_core.specs.Outcomes.{Finds};
-ghost use Rattle.org_core.specs.Refusals.{Tells};
+ghost use Rattle.org_core.specs.Outcomes.{IsAsDecided};
+ghost use Rattle.org_requests.specs.Refusals.{Tells};
 ghost use Rattle.object_routes.specs.Organisations as spec;
 ghost use Rattle.doc_tree.specs.Tree.{doc_of};
 
 use crate::operations::OrganisationOperation;
-use access_lists::{Container, Group as AGroup, starting_list};
+use access_lists::{Container, starting_list};
 use doc_tree::{Fields, Kind, NoMemory, Steps, Text, Tree};
+use membership::Group as AGroup;
 use object_finder::Finder;
 use org_core::{
-    Context, Group, GroupMembers, Lent, Move, Moves, Need, Needs, OrganisationRoute, Perm,
-    Prepared, Refusal, Request, Stop, Stored, create_by, key_of, org_uri, shown_key,
+    Context, Group, GroupMembers, Lent, Move, Moves, Need, Needs, Perm, Prepared, Stored,
+    create_by, key_of,
 };
-use route_table::Verb;
+use org_requests::routes::OrganisationRoute;
+use org_requests::{Refusal, Request, Stop, Verb, org_uri, shown_key};
 use std::alloc::Global;
 use std::hash::RandomState;
 use std::sync::ledger::Ledger;
@@ -115,14 +118,14 @@ fn asked(route: OrganisationRoute, verb: Verb) -> Result<OrganisationOperation, 
 }
 
 fn create(alloc: Global, context: Context<'_>) -> Result<Prepared, NoMemory>
-    ensures { IfOk result (λ p. Finds (Ok p) (spec.organisation_does (seen context.entry) OrganisationOperation.Create).answer) }
+    ensures { IfOk result (λ p. IsAsDecided (Ok p) (spec.organisation_does (seen context.entry) OrganisationOperation.Create).answer) }
 {
     let path = org_uri(alloc, context.org)?;
     create_by(alloc, path, creation(alloc, context.state.hasher())?)
 }
 
 fn show(alloc: Global, context: Context<'_>) -> Result<Prepared, NoMemory>
-    ensures { IfOk result (λ p. Finds (Ok p) (spec.organisation_does (seen context.entry) OrganisationOperation.Show).answer) }
+    ensures { IfOk result (λ p. IsAsDecided (Ok p) (spec.organisation_does (seen context.entry) OrganisationOperation.Show).answer) }
 {
     let name = Tree::Words(context.org.copy(alloc)?);
     let reply = shown_key(alloc, "name", name)?;

@@ -5,9 +5,9 @@ use Rattle.std.proofs.lemmas.Map.Made.{lookup-map_values}
 use Rattle.std.specs.Cmp.{eq_by_cmp_equiv}
 use Rattle.std.specs.FinMap as finite
 use Rattle.std.specs.Map.{lookup}
+use Rattle.membership.specs.MapValues.{map_values}
+use Rattle.membership.proofs.MapValuesLemmas.{is-map_values}
 use Rattle.access_lists.specs.declared.acl.Acl.{Acl}
-use Rattle.access_lists.specs.MapValues.{map_values}
-use Rattle.access_lists.proofs.MapValuesLemmas.{is-map_values}
 use Rattle.object_store.specs.declared.key.Key.{Key}
 use Rattle.object_store.specs.Keys.{key_cmp, key_cmp_total, key_cmp_ties, same_key}
 use Rattle.object_store.specs.Objects.{Lists, smaller}

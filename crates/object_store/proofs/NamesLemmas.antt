@@ -10,6 +10,7 @@ use Rattle.std.specs.FinMap.Entries.{below_all, is_sorted}
 use Rattle.std.specs.List.{AllByRecursion, filter, list_any}
 use Rattle.std.specs.List.Sorted.{IsStrictlySortedBy}
 use Rattle.std.specs.Map.{keys_of}
+use Rattle.doc_tree.specs.Text.{text_cmp}
 use Rattle.doc_tree.specs.Doc.{Doc}
 use Rattle.doc_tree.specs.Valid.{InOrder}
 use Rattle.doc_tree.specs.declared.kind.Kind.{Kind}
@@ -17,10 +18,6 @@ use Rattle.object_store.specs.declared.key.Key.{Key}
 use Rattle.object_store.specs.Keys.{key, position_of, key_cmp, same_key, is_of, names_of}
 use Rattle.object_store.specs.Objects.{Objects, names_in}
 use Rattle.object_store.proofs.KeysLemmas.{same_key-key}
-
--- names are ordered by their bytes
-abbrev name_cmp : List ℕ → List ℕ → Ordering
-name_cmp = slice_cmp nat_cmp
 
 one : (a b : Bool) → T (a && b) → T a
 one true b h = tt
@@ -36,19 +33,19 @@ less Equal h = absurd h
 less Greater h = absurd h
 
 -- of two keys of a kind the lower has the name below
-below_name : (kind : Kind) (k l : Key) → is_of kind k ≡ true → is_of kind l ≡ true → key_cmp k l ≡ Less → name_cmp k.name l.name ≡ Less
+below_name : (kind : Kind) (k l : Key) → is_of kind k ≡ true → is_of kind l ≡ true → key_cmp k l ≡ Less → text_cmp k.name l.name ≡ Less
 below_name kind k l of_k of_l below =
     let positions : position_of k.kind ≡ position_of l.kind = sym (eqb-true (position_of kind) (position_of k.kind) of_k) ∙ eqb-true (position_of kind) (position_of l.kind) of_l in
     let tied : nat_cmp (position_of k.kind) (position_of l.kind) ≡ Equal = ap (λ n. nat_cmp n (position_of l.kind)) positions ∙ tied_itself nat_cmp_total (position_of l.kind) in
-    ap (λ r. ordering_then r (name_cmp k.name l.name)) (sym tied) ∙ below
+    ap (λ r. ordering_then r (text_cmp k.name l.name)) (sym tied) ∙ below
 
 -- a key below all has a name below all of its kind
 below_names : (kind : Kind) (k : Key) (es : List (Key × Doc)) → is_of kind k ≡ true → T (below_all key_cmp k es)
-    → AllByRecursion (λ name. name_cmp k.name name ≡ Less) (names_of kind (keys_of es))
+    → AllByRecursion (λ name. text_cmp k.name name ≡ Less) (names_of kind (keys_of es))
 below_names kind k [] of_k below = tt
 below_names kind k (e ∷ es) of_k below =
     let rest = below_names kind k es of_k (other _ _ below) in
-    elim (is_of kind e.0) as (λ b. is_of kind e.0 ≡ b → AllByRecursion (λ name. name_cmp k.name name ≡ Less) (map (λ (x : Key). x.name) (cond b (e.0 ∷ filter (is_of kind) (keys_of es)) (filter (is_of kind) (keys_of es))))) [
+    elim (is_of kind e.0) as (λ b. is_of kind e.0 ≡ b → AllByRecursion (λ name. text_cmp k.name name ≡ Less) (map (λ (x : Key). x.name) (cond b (e.0 ∷ filter (is_of kind) (keys_of es)) (filter (is_of kind) (keys_of es))))) [
       | true ↦ λ of_e. (below_name kind k e.0 of_k of_e (less _ (one _ _ below)), rest)
       | false ↦ λ of_e. rest
     ] refl

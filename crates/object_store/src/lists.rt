@@ -2,8 +2,8 @@
 ghost use Rattle.std.specs.Prelude.{◌≡◌, ◌+◌, ◌<◌, ◌≤◌, [], IfOk, OnOk, option_copied};
 ghost use Rattle.std.specs.FinMap as finite;
 ghost use Rattle.indexmap.specs.IndexMap.{insert_entry};
+ghost use Rattle.membership.specs.MapValues.{map_values};
 ghost use Rattle.access_lists.specs.Acls.{each_entry, without_actor, without_group};
-ghost use Rattle.access_lists.specs.MapValues.{map_values};
 ghost use Rattle.object_store.specs.Keys.{same_key};
 
 use crate::key::Key;

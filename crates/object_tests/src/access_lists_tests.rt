@@ -2,10 +2,11 @@
 //! is one text: what is asked stands before an arrow in a row, and what is told behind it.
 
 use access_lists::{
-    Acl, AclFault, Container, Entry, Perm, TextSet, access_lists_read_back, acl_tree, read_acl,
+    Acl, AclFault, Container, Entry, Perm, access_lists_read_back, acl_tree, read_acl,
     starting_list, whole_acl,
 };
-use doc_tree::{Bytes, NoMemory, Text, Tree, json_text, read_json};
+use doc_tree::{Bytes, NoMemory, Text, json_text, read_json};
+use membership::TextSet;
 use std::alloc::Global;
 use std::test::Fail;
 
@@ -35,7 +36,7 @@ pub(crate) fn perm_of(word: &str) -> Perm {
     }
 }
 
-fn add_texts(told: &mut String, texts: &TextSet) -> Result<(), NoMemory> {
+pub(crate) fn add_texts(told: &mut String, texts: &TextSet) -> Result<(), NoMemory> {
     for text in texts.as_slice() {
         told.push_str(" ")?;
         told.push_str(text.as_str())?;
@@ -254,90 +255,6 @@ fn the_document_of_a_list_is_its_text(rt: HostRuntime) -> Result<(), Fail> {
 
 pub(crate) fn yes_or_no(yes: bool) -> &'static str {
     if yes { " yes" } else { " no" }
-}
-
-fn add_with(alloc: Global, told: &mut String, set: &TextSet, text: &Text) -> Result<(), NoMemory> {
-    let more = set.with(alloc, text)?;
-    add_texts(told, &more)
-}
-
-fn add_without(
-    alloc: Global,
-    told: &mut String,
-    set: &TextSet,
-    text: &Text,
-) -> Result<(), NoMemory> {
-    let mut less = set.copy(alloc)?;
-    less.take_out(text);
-    add_texts(told, &less)
-}
-
-fn add_set_and(
-    alloc: Global,
-    told: &mut String,
-    set: &TextSet,
-    text: &Text,
-) -> Result<(), NoMemory> {
-    add_texts(told, set)?;
-    let (empty, has) = (yes_or_no(set.is_empty()), yes_or_no(set.contains(text)));
-    write!(told, ",{empty}{has},")?;
-    add_with(alloc, told, set, text)?;
-    told.push_str(",")?;
-    add_without(alloc, told, set, text)
-}
-
-fn add_set(alloc: Global, told: &mut String, set: &TextSet) -> Result<(), NoMemory> {
-    let c = Text::from_str(alloc, "c")?;
-    add_set_and(alloc, told, set, &c)
-}
-
-// The set that the list of a set's texts is read as.
-fn set_back(alloc: Global, tree: &Tree) -> Result<Option<TextSet>, NoMemory> {
-    match TextSet::read(alloc, tree)? {
-        Some(set) => TextSet::read(alloc, &set.tree(alloc)?),
-        None => Ok(None),
-    }
-}
-
-fn add_set_of(alloc: Global, told: &mut String, body: &str) -> Result<(), NoMemory> {
-    let Ok(tree) = read_json(alloc, body.as_bytes()) else {
-        return Ok(told.push_str(" no JSON")?);
-    };
-    match set_back(alloc, &tree)? {
-        Some(set) => add_set(alloc, told, &set),
-        None => Ok(told.push_str(" none")?),
-    }
-}
-
-// A set of texts; whether it is empty and whether it has `c`; the set with `c`, and without it.
-const SETS: &str = r#"["d","b","d"] -> b d, no no, b c d, b d
-["c","C"] -> C c, no yes, C c, C
-[] ->, yes no, c,
-["c",1] -> none
-"c" -> none
-null -> none
-"#;
-
-fn add_set_row(alloc: Global, told: &mut String, asked: &str) -> Result<(), NoMemory> {
-    write!(told, "{asked} ->")?;
-    add_set_of(alloc, told, asked)?;
-    Ok(told.push_str("\n")?)
-}
-
-fn sets(alloc: Global) -> Result<String, NoMemory> {
-    let mut told = String::new(alloc);
-    for row in SETS.lines() {
-        add_set_row(alloc, &mut told, asked(row))?;
-    }
-    Ok(told)
-}
-
-#[test]
-fn texts_are_sets(rt: HostRuntime) -> Result<(), Fail> {
-    assert!(rt; TextSet::new(rt.alloc()).is_empty());
-    let told = sets(rt.alloc())?;
-    assert_eq!(rt; told.as_str(), SETS);
-    Ok(())
 }
 
 // The groups that may create, read, update, delete and grant, by their first letters.

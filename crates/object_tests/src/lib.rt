@@ -1,4 +1,4 @@
-//! Tests of access lists and objects.
+//! Tests of groups, access lists and objects.
 #![tactic(auto)]
 
 #[cfg(test)]
@@ -13,3 +13,5 @@ mod object_store_tests;
 mod permission_tests;
 #[cfg(test)]
 mod stranger_tests;
+#[cfg(test)]
+mod text_set_tests;

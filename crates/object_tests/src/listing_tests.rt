@@ -2,8 +2,8 @@
 
 use crate::access_lists_tests::{asked, first_word, yes_or_no};
 use crate::permission_tests::{kind_of, organisation};
-use access_lists::{Group, Groups, MemberKind, is_starting_group};
 use doc_tree::{NoMemory, Text, Texts};
+use membership::{Group, Groups, MemberKind, is_starting_group};
 use std::alloc::Global;
 use std::hash::RandomState;
 use std::test::Fail;

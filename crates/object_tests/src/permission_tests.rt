@@ -1,11 +1,11 @@
 //! Who may do what. A table is one text, as in `tests`.
 
 use crate::access_lists_tests::{ACL, acl_of, asked, first_word, perm_of};
-use access_lists::{
-    Acl, Group, GroupLists, GroupRow, GroupRows, Groups, MemberKind, changes_follow_the_lists,
-    permission_is_decided, permitted,
-};
+use access_lists::{Acl, permission_is_decided, permitted};
 use doc_tree::{Name, Names, NoMemory, Text};
+use membership::{
+    Group, GroupLists, GroupRow, GroupRows, Groups, MemberKind, changes_follow_the_lists,
+};
 use std::alloc::Global;
 use std::hash::RandomState;
 use std::test::Fail;

@@ -2,8 +2,9 @@
 
 use crate::access_lists_tests::{acl_of, asked, yes_or_no};
 use crate::permission_tests::organisation;
-use access_lists::{Acl, AclFault, Entry, Groups, Perm, Stranger, TextSet, permitted, read_acl};
+use access_lists::{Acl, AclFault, Entry, Perm, Stranger, first_stranger, permitted, read_acl};
 use doc_tree::{NoMemory, Text, read_json};
+use membership::{Groups, TextSet};
 use std::alloc::Global;
 use std::hash::RandomState;
 use std::test::Fail;
@@ -29,7 +30,7 @@ fn name_at(texts: &TextSet, position: usize) -> &str {
 }
 
 fn add_stranger(told: &mut String, groups: &Groups, entry: &Entry) -> Result<(), NoMemory> {
-    match groups.stranger(entry) {
+    match first_stranger(groups, entry) {
         Some(Stranger::Actor(at)) => write!(told, " actor {}", name_at(&entry.actors, at))?,
         Some(Stranger::Group(at)) => write!(told, " group {}", name_at(&entry.groups, at))?,
         None => told.push_str(" none")?,

@@ -2,19 +2,19 @@
 use Rattle.std.proofs.Common.{◌≡◌, ℕ, List, Bool, true, false, cond, inl, inr, Some, None, is_some, bytes_eq, refl, sym, ap, subst, ◌∙◌}
 use Rattle.std.specs.FinMap as finite
 use Rattle.std.specs.Ordering.{eq_by_cmp}
+use Rattle.membership.specs.declared.member_kind.MemberKind.{MemberKind}
+use Rattle.membership.specs.declared.member_kind.MemberKind.TheVariants as member
+use Rattle.membership.specs.Changes.{with_user, without_user, with_client, without_client}
+use Rattle.membership.specs.MapValues.{map_values}
+use Rattle.membership.specs.Members.{Members, GroupsByName, Membership, no_members}
+use Rattle.membership.specs.StartingGroups.{is_starting_group}
+use Rattle.membership.specs.Actors as membership
+use Rattle.membership.specs.TextSets.{lists}
+use Rattle.membership.proofs.MapValuesLemmas.{get-map_values, is_some-map_values}
 use Rattle.access_lists.specs.declared.acl.Acl.{Acl}
 use Rattle.access_lists.specs.declared.acl.Entry.{Entry}
-use Rattle.access_lists.specs.declared.member_kind.MemberKind.{MemberKind}
-use Rattle.access_lists.specs.declared.member_kind.MemberKind.TheVariants as member
 use Rattle.access_lists.specs.declared.perm.Perm.{Perm}
 use Rattle.access_lists.specs.Acls.{entry_of, each_entry, without_actor, without_group}
-use Rattle.access_lists.specs.Changes.{with_user, without_user, with_client, without_client}
-use Rattle.access_lists.specs.MapValues.{map_values}
-use Rattle.access_lists.specs.Members.{Members, GroupsByName, Membership}
-use Rattle.access_lists.specs.Starting.{no_members, is_starting_group}
-use Rattle.access_lists.specs.Strangers as membership
-use Rattle.access_lists.specs.TextSets.{lists}
-use Rattle.access_lists.proofs.MapValuesLemmas.{get-map_values, is_some-map_values}
 use Rattle.doc_tree.specs.Name.{is_name}
 use Rattle.doc_tree.specs.declared.kind.Kind.{Kind}
 use Rattle.doc_tree.specs.declared.kind.Kind.TheVariants as kinds

@@ -1,11 +1,11 @@
 -- Who is an actor, and names that are told apart, when somebody comes or goes.
 use Rattle.std.proofs.Common.{◌≡◌, ℕ, List, Bool, true, false, ◌&&◌, ◌||◌, inl, inr, bytes_eq, refl, sym, subst, ◌∙◌}
 use Rattle.std.proofs.lemmas.Bool.{or_parts, or_left, or_right}
-use Rattle.access_lists.specs.declared.member_kind.MemberKind.{MemberKind}
-use Rattle.access_lists.specs.declared.member_kind.MemberKind.TheVariants as member
-use Rattle.access_lists.specs.Members.{Membership}
-use Rattle.access_lists.specs.Permitted.{operator}
-use Rattle.access_lists.specs.Strangers as membership
+use Rattle.membership.specs.declared.member_kind.MemberKind.{MemberKind}
+use Rattle.membership.specs.declared.member_kind.MemberKind.TheVariants as member
+use Rattle.membership.specs.Members.{Membership}
+use Rattle.membership.specs.Actors.{operator}
+use Rattle.membership.specs.Actors as membership
 use Rattle.org_core.specs.AccessConditions.{AreApart}
 use Rattle.org_core.proofs.MembershipLemmas.{Comes, Goes, IsOther, either, itself, other_name}
 

@@ -3,14 +3,15 @@ use Rattle.std.proofs.Common.{◌≡◌, ℕ, List, [], ◌∷◌, ◌++◌, map
 use Rattle.std.specs.FinMap as finite
 use Rattle.std.specs.FinSet as set
 use Rattle.std.specs.Ordering.{eq_by_cmp}
+use Rattle.membership.specs.declared.member_kind.MemberKind.{MemberKind}
+use Rattle.membership.specs.declared.member_kind.MemberKind.TheVariants as member
+use Rattle.membership.specs.Changes.{with_client}
+use Rattle.membership.specs.Members.{Members, Membership, no_members}
+use Rattle.membership.specs.StartingGroups.{is_starting_group}
+use Rattle.membership.specs.Actors as membership
 use Rattle.access_lists.specs.declared.acl.Acl.{Acl}
-use Rattle.access_lists.specs.declared.member_kind.MemberKind.{MemberKind}
-use Rattle.access_lists.specs.declared.member_kind.MemberKind.TheVariants as member
 use Rattle.access_lists.specs.declared.starting.Container.{Container}
-use Rattle.access_lists.specs.Changes.{with_client}
-use Rattle.access_lists.specs.Members.{Members, Membership}
-use Rattle.access_lists.specs.Starting.{name_of, no_members, is_starting_group, starting_list}
-use Rattle.access_lists.specs.Strangers as membership
+use Rattle.access_lists.specs.Starting.{name_of, starting_list}
 use Rattle.doc_tree.specs.Doc.{Doc}
 use Rattle.doc_tree.specs.Name.{is_name}
 use Rattle.doc_tree.specs.declared.kind.Kind.TheVariants as kinds

@@ -3,15 +3,18 @@ use Rattle.std.proofs.Common.{◌≡◌, ℕ, Bool, true, false, cond, ◌||◌,
 use Rattle.std.specs.Cmp.Lexicographic.{nat_list_cmp_total}
 use Rattle.std.specs.FinMap as finite
 use Rattle.std.specs.Ordering.{eq_by_cmp}
+use Rattle.doc_tree.specs.Text.{text_cmp}
 use Rattle.sandboxes.proofs.StockLemmas.{get-with_committed}
-use Rattle.sandboxes.specs.Checksums.{text_cmp}
 use Rattle.sandboxes.specs.Sandboxes.{Holding, begun, committed, has_file, is_at_end, nothing, sums_of, upload_fault, uploaded, with_file, with_sandbox}
 use Rattle.sandboxes.specs.Sums.{lists}
 use Rattle.sandboxes.specs.declared.stored.Stored.{Stored}
 use Rattle.shelves.proofs.ShelfLaws.{tied_name}
 use Rattle.org_core.specs.FileMoves.{after_all, after_file_move, files_after_move, files_within, is_complete, takes_shelf_room, shelved_by}
 use Rattle.org_core.specs.FullStates.{FullState, MeetsFileConditions}
+use Rattle.org_core.specs.Keeping.{KeepsFileConditions, NeverShelves, full_of}
 use Rattle.org_core.specs.Moves.{after_move, opens, outside, within}
+use Rattle.org_core.specs.Outcomes.{outcome_of}
+use Rattle.org_core.specs.Rules.{Rules}
 use Rattle.org_core.specs.States.{Organisation, State, shelved_of}
 use Rattle.org_shelves.proofs.StayingLemmas.{nothing_there, stay}
 use Rattle.org_shelves.specs.Files.{AreThere, is_committed, is_committed_file}
@@ -158,3 +161,15 @@ pub put_keeps_files : (org : List ℕ) (move : Move) (rest : List Move) (full : 
     → MeetsFileConditions (after_all org (move ∷ rest) full)
 put_keeps_files org move rest full none own meets =
     moves_keep_files org rest (record { state = after_move move full.state; files = files_after_move org move full.state full.files }) none (move_keeps_files org move full meets own)
+
+-- a list that comes or goes beside a move puts nothing on a shelf
+pub list_puts_none : (b : Bool) (one : Move) → takes_shelf_room one ≡ false → shelved_by (cond b [] (one ∷ [])) ≡ 0
+list_puts_none true one none = refl
+list_puts_none false one none = ap (λ (b : Bool). length (cond b (one ∷ []) [])) none
+
+-- ---- any group
+
+-- a group that puts nothing on a shelf keeps them
+pub shelfless_keeps : {Route Operation : Type 0} (rules : Rules Route Operation) → NeverShelves rules → KeepsFileConditions rules
+shelfless_keeps rules puts context route request operation meets is free =
+    moves_keep_files context.org (outcome_of (rules.does context operation).answer).moves (full_of context) (puts context operation) meets

@@ -6,11 +6,9 @@ pub mod AccessConditionsLemmas
 pub mod StartingConditionsLemmas
 pub mod ConditionsLemmas
 pub mod ShelfConditionsLemmas
-pub mod NumberLemmas
 pub mod FileLemmas
 pub mod FileConditionsLemmas
-pub mod JoinLemmas
-pub mod ListingLemmas
+pub mod ManifestsLemmas
 pub mod MovesLemmas
 pub mod PlainLemmas
 pub mod ReadLemmas

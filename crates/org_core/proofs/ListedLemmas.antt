@@ -4,17 +4,17 @@ use Rattle.std.proofs.lemmas.Bool.{or_left, or_right}
 use Rattle.std.proofs.lemmas.Option.{same_Some}
 use Rattle.std.specs.FinMap as finite
 use Rattle.std.specs.Ordering.{eq_by_cmp}
+use Rattle.membership.specs.declared.member_kind.MemberKind.{MemberKind}
+use Rattle.membership.specs.declared.member_kind.MemberKind.TheVariants as member
+use Rattle.membership.specs.Members.{Membership}
+use Rattle.membership.specs.Actors as membership
+use Rattle.membership.specs.TextSets.{lists, without}
+use Rattle.membership.proofs.TextSetLemmas.{lists-in_order}
 use Rattle.access_lists.specs.declared.acl.Acl.{Acl}
 use Rattle.access_lists.specs.declared.acl.Entry.{Entry}
-use Rattle.access_lists.specs.declared.member_kind.MemberKind.{MemberKind}
-use Rattle.access_lists.specs.declared.member_kind.MemberKind.TheVariants as member
 use Rattle.access_lists.specs.declared.perm.Perm.{Perm}
 use Rattle.access_lists.specs.declared.perm.Perm.TheVariants as permission
 use Rattle.access_lists.specs.Acls.{entry_of, each_entry, with_actor}
-use Rattle.access_lists.specs.Members.{Membership}
-use Rattle.access_lists.specs.Strangers as membership
-use Rattle.access_lists.specs.TextSets.{lists, without}
-use Rattle.access_lists.proofs.TextSetLemmas.{lists-in_order}
 use Rattle.doc_tree.specs.Doc.{Doc}
 use Rattle.doc_tree.specs.declared.kind.Kind.{Kind}
 use Rattle.doc_tree.specs.declared.kind.Kind.TheVariants as kinds

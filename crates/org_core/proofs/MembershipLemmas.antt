@@ -6,15 +6,14 @@ use Rattle.std.specs.Cmp.Lexicographic.{bytes_decides, nat_list_cmp_total}
 use Rattle.std.specs.FinMap as finite
 use Rattle.std.specs.FinSet as set
 use Rattle.std.specs.Option.{option_map_or}
-use Rattle.access_lists.specs.declared.member_kind.MemberKind.{MemberKind}
-use Rattle.access_lists.specs.declared.member_kind.MemberKind.TheVariants as member
-use Rattle.access_lists.specs.Changes.{changed, joined, left, with_user, without_user, with_client, without_client, with_groups}
-use Rattle.access_lists.specs.Members.{Members, GroupsByName, Membership}
-use Rattle.access_lists.specs.Starting.{no_members}
-use Rattle.access_lists.specs.Strangers as membership
-use Rattle.access_lists.specs.TextSets.{Names}
-use Rattle.access_lists.proofs.MapValuesLemmas.{get-map_values, is_some-map_values}
-use Rattle.access_lists.proofs.TextSetLemmas.{tied}
+use Rattle.membership.specs.declared.member_kind.MemberKind.{MemberKind}
+use Rattle.membership.specs.declared.member_kind.MemberKind.TheVariants as member
+use Rattle.membership.specs.Changes.{changed, joined, left, with_user, without_user, with_client, without_client, with_groups}
+use Rattle.membership.specs.Members.{Members, GroupsByName, Membership, no_members}
+use Rattle.membership.specs.Actors as membership
+use Rattle.membership.specs.TextSets.{Names}
+use Rattle.membership.proofs.MapValuesLemmas.{get-map_values, is_some-map_values}
+use Rattle.membership.proofs.TextSetLemmas.{tied}
 use Rattle.org_core.specs.AccessConditions.{has_member}
 use Rattle.org_core.specs.Moves.{joins, leaves}
 

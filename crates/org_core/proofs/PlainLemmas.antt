@@ -3,14 +3,15 @@ use Rattle.std.proofs.Common.{ℕ, List, Bool, true, false, Option, IfSome, Resu
 use Rattle.doc_tree.specs.Doc.{Doc}
 use Rattle.doc_tree.specs.declared.kind.Kind.{Kind}
 use Rattle.object_forms.specs.Objects.{object_from}
-use Rattle.org_core.specs.Bodies.{document_in, unreadable, or_bad_field, object_said, object_in_body, absent}
+use Rattle.org_core.specs.Bodies.{or_bad_field, object_said, object_in_body}
+use Rattle.org_requests.specs.Documents.{document_in, unreadable, absent}
 use Rattle.org_core.specs.Plain.{IsPlain, RefusesPlainly}
-use Rattle.org_core.specs.Refusals.{refuses}
-use Rattle.org_core.specs.declared.refusals.Refusal.{Refusal}
-use Rattle.org_core.specs.declared.requests.BadBody.{BadBody}
-use Rattle.org_core.specs.declared.requests.BadBody.TheVariants as bad
-use Rattle.org_core.specs.declared.requests.Body.{Body}
-use Rattle.org_core.specs.declared.requests.Body.TheVariants.{Empty, Doc as Read, Bad, Raw, TooLong}
+use Rattle.org_requests.specs.Refusals.{refuses}
+use Rattle.org_requests.specs.declared.refusals.Refusal.{Refusal}
+use Rattle.org_requests.specs.declared.requests.BadBody.{BadBody}
+use Rattle.org_requests.specs.declared.requests.BadBody.TheVariants as bad
+use Rattle.org_requests.specs.declared.requests.Body.{Body}
+use Rattle.org_requests.specs.declared.requests.Body.TheVariants.{Empty, Doc as Read, Bad, Raw, TooLong}
 
 unreadable_plain : (fault : BadBody) → IsPlain (unreadable fault)
 unreadable_plain bad.NotJson = tt

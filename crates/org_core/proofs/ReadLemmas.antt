@@ -6,10 +6,11 @@ use Rattle.doc_tree.specs.Name.{is_name}
 use Rattle.doc_tree.specs.declared.kind.Kind.{Kind}
 use Rattle.object_forms.specs.Forms.{name_from}
 use Rattle.object_forms.specs.Objects.{object_from}
-use Rattle.org_core.specs.Bodies.{document_in, or_bad_field, object_said, object_in_body}
+use Rattle.org_core.specs.Bodies.{or_bad_field, object_said, object_in_body}
+use Rattle.org_requests.specs.Documents.{document_in}
 use Rattle.org_core.specs.Named.{text_of}
-use Rattle.org_core.specs.declared.refusals.Refusal.{Refusal}
-use Rattle.org_core.specs.declared.requests.Body.{Body}
+use Rattle.org_requests.specs.declared.refusals.Refusal.{Refusal}
+use Rattle.org_requests.specs.declared.requests.Body.{Body}
 
 -- a body was read as this object, of this kind and, where it is replaced, of this name
 abbrev pub IsRead : Kind → Option (List ℕ) → Doc → Type 0

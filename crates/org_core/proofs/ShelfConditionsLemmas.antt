@@ -2,9 +2,10 @@
 use Rattle.std.proofs.Common.{◌≡◌, ◌≢◌, ℕ, List, [], ◌∷◌, Bool, true, false, cond, inl, inr, Some, None, is_some, refl, sym, ap, subst, ◌∙◌}
 use Rattle.std.specs.FinMap as finite
 use Rattle.std.specs.Ordering.{eq_by_cmp}
+use Rattle.doc_tree.specs.Text.{text_cmp}
+use Rattle.membership.specs.TextSets.{lists}
 use Rattle.access_lists.specs.declared.acl.Acl.{Acl}
 use Rattle.access_lists.specs.Acls.{entry_of}
-use Rattle.access_lists.specs.TextSets.{lists}
 use Rattle.dep_solver.proofs.VersionLemmas.{versions_total}
 use Rattle.doc_tree.specs.Doc.{Doc}
 use Rattle.doc_tree.specs.declared.kind.Kind.{Kind}
@@ -19,7 +20,7 @@ use Rattle.org_shelves.specs.ShelfMoves.{after_shelf_move}
 use Rattle.org_shelves.specs.declared.shelf_moves.ShelfMove.{ShelfMove}
 use Rattle.org_shelves.specs.declared.shelf_moves.ShelfMove.TheVariants.{PutVersion, TakeVersion}
 use Rattle.shelves.proofs.ShelfLaws.{has_shelf-put_other, has_shelf-put_same, has_shelf-without_other, same_name, tied_name}
-use Rattle.shelves.specs.Shelves.{has_shelf, put, text_cmp, without}
+use Rattle.shelves.specs.Shelves.{has_shelf, put, without}
 use Rattle.version_rules.specs.declared.versions.Version.{Version}
 use Rattle.org_core.proofs.ListedLemmas.{NamesKnown, found_in, found_still, left-at, put-at, same_listed}
 use Rattle.org_core.proofs.ObjectConditionsLemmas.{same_keys, ties_itself}

@@ -6,23 +6,24 @@ use Rattle.std.specs.FinMap as finite
 use Rattle.std.specs.FinSet as set
 use Rattle.std.specs.List.{list_any, list_all, find}
 use Rattle.std.specs.Ordering.{eq_by_cmp}
+use Rattle.doc_tree.specs.Text.{text_cmp as shelf_cmp, text_cmp}
+use Rattle.membership.specs.declared.member_kind.MemberKind.TheVariants as member
+use Rattle.membership.specs.declared.member_kind.MemberKind.{MemberKind}
+use Rattle.membership.specs.Members.{Members, GroupsByName, Membership, no_members}
+use Rattle.membership.specs.Actors.{operator}
+use Rattle.membership.specs.StartingGroups.{starting_groups, is_starting_group}
+use Rattle.membership.specs.Actors as membership
+use Rattle.membership.specs.TextSets.{lists}
 use Rattle.access_lists.specs.declared.acl.Acl.{Acl}
-use Rattle.access_lists.specs.declared.member_kind.MemberKind.TheVariants as member
-use Rattle.access_lists.specs.declared.member_kind.MemberKind.{MemberKind}
 use Rattle.access_lists.specs.declared.perm.Perm.{Perm}
 use Rattle.access_lists.specs.declared.perm.Perm.TheVariants as permission
 use Rattle.access_lists.specs.declared.starting.Container.{Container}
 use Rattle.access_lists.specs.declared.starting.Container.TheVariants as container
 use Rattle.access_lists.specs.Acls.{entry_of}
-use Rattle.access_lists.specs.Members.{Members, GroupsByName, Membership}
-use Rattle.access_lists.specs.Permitted.{operator}
-use Rattle.access_lists.specs.Starting.{A, AU, AKU, granting, containers, name_of, no_members, starting_groups, starting_list, is_starting_group}
-use Rattle.access_lists.specs.Strangers as membership
-use Rattle.access_lists.specs.TextSets.{text_cmp, lists}
+use Rattle.access_lists.specs.Starting.{A, AU, AKU, granting, containers, name_of, starting_list}
 use Rattle.doc_tree.specs.Doc.{Doc}
 use Rattle.doc_tree.specs.Name.{is_name}
 use Rattle.doc_tree.specs.declared.kind.Kind.{Kind}
-use Rattle.shelves.specs.Shelves.{text_cmp as shelf_cmp}
 use Rattle.doc_tree.specs.declared.kind.Kind.TheVariants as kinds
 use Rattle.object_store.specs.Objects.{Lists, key, key_cmp}
 use Rattle.object_store.specs.declared.key.Key.{Key}

@@ -1,6 +1,6 @@
 -- States whose parts are equal.
 use Rattle.std.proofs.Common.{◌≡◌, Bool, true, false, Some, refl, ◌∙◌}
-use Rattle.access_lists.specs.Rooms as groups
+use Rattle.membership.specs.Rooms as groups
 use Rattle.object_store.specs.Objects.{Store}
 use Rattle.org_shelves.specs.Shelved as shelves
 use Rattle.org_core.specs.States.{IsNobody, state_from}

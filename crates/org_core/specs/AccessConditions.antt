@@ -2,16 +2,17 @@
 use Rattle.std.specs.Prelude.{◌≡◌, Bool, true, false, ◌&&◌, ◌||◌, ℕ, List, Some, is_some}
 use Rattle.std.specs.FinMap as map
 use Rattle.std.specs.FinSet as set
+use Rattle.membership.specs.declared.member_kind.MemberKind.{MemberKind}
+use Rattle.membership.specs.declared.member_kind.MemberKind.TheVariants as member
+use Rattle.membership.specs.Members.{Members, Membership}
+use Rattle.membership.specs.Actors.{operator}
+use Rattle.membership.specs.StartingGroups.{is_starting_group}
+use Rattle.membership.specs.Actors as membership
+use Rattle.membership.specs.TextSets.{lists}
 use Rattle.access_lists.specs.declared.acl.Acl.{Acl}
-use Rattle.access_lists.specs.declared.member_kind.MemberKind.{MemberKind}
-use Rattle.access_lists.specs.declared.member_kind.MemberKind.TheVariants as member
 use Rattle.access_lists.specs.declared.perm.Perm.{Perm}
 use Rattle.access_lists.specs.Acls.{entry_of}
-use Rattle.access_lists.specs.Members.{Members, Membership}
-use Rattle.access_lists.specs.Permitted.{operator}
-use Rattle.access_lists.specs.Starting.{container_named, is_starting_group}
-use Rattle.access_lists.specs.Strangers as membership
-use Rattle.access_lists.specs.TextSets.{lists}
+use Rattle.access_lists.specs.Starting.{container_named}
 use Rattle.doc_tree.specs.Name.{is_name}
 use Rattle.doc_tree.specs.declared.kind.Kind.{Kind}
 use Rattle.doc_tree.specs.declared.kind.Kind.TheVariants.{Org, Node, Role, Environment, Bag, Client, User, Group, Container, Item, Cookbook, Artifact, Policy, PolicyGroup, Acl as AnAcl, Sandbox, File}

@@ -1,6 +1,6 @@
 -- What leads from a state that meets the conditions to one that does.
 use Rattle.std.specs.Prelude.{◌≡◌, true, false, None, Ok}
-use Rattle.org_core.specs.declared.requests.Request.{Request}
+use Rattle.org_requests.specs.declared.requests.Request.{Request}
 use Rattle.org_core.specs.Conditions.{MeetsConditions}
 use Rattle.org_core.specs.Contexts.{Context}
 use Rattle.org_core.specs.FileMoves.{after_all, shelved_by}

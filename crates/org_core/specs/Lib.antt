@@ -1,8 +1,4 @@
-pub mod Requests
-pub mod Paths
-pub mod Collections
-pub mod Replies
-pub mod Refusals
+pub mod Manifests
 pub mod States
 pub mod Comers
 pub mod Stored
@@ -11,7 +7,6 @@ pub mod FullStates
 pub mod Moves
 pub mod FileMoves
 pub mod Rooms
-pub mod Parameters
 pub mod Bodies
 pub mod Contexts
 pub mod Needs
@@ -23,3 +18,4 @@ pub mod AccessConditions
 pub mod Conditions
 pub mod Keeping
 pub mod Plain
+pub mod Lawful

@@ -1,14 +1,14 @@
 -- The moves that change a state. A request makes a list of them, in order.
 use Rattle.std.specs.Prelude.{◌≡◌, ◌≤◌, Bool, true, false, ℕ, List, [], ◌∷◌, Option, Some, None, is_some, length, filter, drop, IsTrue}
 use Rattle.std.specs.FinMap as map
-use Rattle.access_lists.specs.declared.member_kind.MemberKind.{MemberKind}
-use Rattle.access_lists.specs.declared.member_kind.MemberKind.TheVariants as kind
+use Rattle.membership.specs.declared.member_kind.MemberKind.{MemberKind}
+use Rattle.membership.specs.declared.member_kind.MemberKind.TheVariants as kind
+use Rattle.membership.specs.Changes.{changed, joined, left_all, with_user, without_user, with_client, without_client, with_groups}
+use Rattle.membership.specs.MapValues.{map_values}
+use Rattle.membership.specs.Members.{Membership}
+use Rattle.membership.specs.Rooms as groups
+use Rattle.membership.specs.Actors as membership
 use Rattle.access_lists.specs.Acls.{each_entry, without_actor, without_group}
-use Rattle.access_lists.specs.Changes.{changed, joined, left_all, with_user, without_user, with_client, without_client, with_groups}
-use Rattle.access_lists.specs.MapValues.{map_values}
-use Rattle.access_lists.specs.Members.{Membership}
-use Rattle.access_lists.specs.Rooms as groups
-use Rattle.access_lists.specs.Strangers as membership
 use Rattle.object_store.specs.Objects.{Objects, Lists}
 use Rattle.org_core.specs.declared.moves.Move.{Move}
 use Rattle.org_core.specs.declared.moves.Move.TheVariants.{Open, Put, TakeOut, PutList, TakeList, AddUser, RemoveUser, AddClient, RemoveClient, PutGroup, RemoveGroup, OnShelves, OnFiles}
@@ -141,11 +141,11 @@ abbrev pub IsOrderly : List Move → Type 0
 IsOrderly moves = arrivals (drop 1 moves) ≡ 0
 
 -- one more member fits into the group, where one is joined and is there
-abbrev pub HasPlace : Option (List ℕ) → groups.Kept → Type 0
-HasPlace None kept = Unit {0}
-HasPlace (Some group) kept = IsTrue (membership.has kept.membership kind.Group group) → 1 ≤ groups.room_of kept.rooms group
+abbrev pub HasRoomToJoin : Option (List ℕ) → groups.Kept → Type 0
+HasRoomToJoin None kept = Unit {0}
+HasRoomToJoin (Some group) kept = IsTrue (membership.has kept.membership kind.Group group) → 1 ≤ groups.room_of kept.rooms group
 
 -- and into the group that the first of these moves has somebody join
-abbrev pub HasPlaceFirst : List Move → groups.Kept → Type 0
-HasPlaceFirst [] kept = Unit {0}
-HasPlaceFirst (move ∷ rest) kept = HasPlace (group_joined move) kept
+abbrev pub HasRoomToJoinFirst : List Move → groups.Kept → Type 0
+HasRoomToJoinFirst [] kept = Unit {0}
+HasRoomToJoinFirst (move ∷ rest) kept = HasRoomToJoin (group_joined move) kept

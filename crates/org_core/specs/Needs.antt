@@ -1,17 +1,17 @@
 -- The permissions that an operation needs, and the first that its caller lacks.
 use Rattle.std.specs.Prelude.{ℕ, Bool, false, cond, List, [], ◌∷◌, Option, Some, None}
+use Rattle.membership.specs.Members.{Membership}
+use Rattle.membership.specs.Actors.{is_actor}
 use Rattle.access_lists.specs.declared.acl.Acl.{Acl}
 use Rattle.access_lists.specs.declared.perm.Perm.{Perm}
 use Rattle.access_lists.specs.Acls.{entry_of}
-use Rattle.access_lists.specs.Members.{Membership}
 use Rattle.access_lists.specs.Permitted.{is_permitted}
-use Rattle.access_lists.specs.Strangers.{is_actor}
 use Rattle.org_core.specs.declared.needs.Need.{Need}
 use Rattle.org_core.specs.declared.needs.Need.TheVariants.{Operator, Listed}
-use Rattle.org_core.specs.declared.refusals.Refusal.{Refusal}
-use Rattle.org_core.specs.declared.refusals.Refusal.TheVariants.{Forbidden}
+use Rattle.org_requests.specs.declared.refusals.Refusal.{Refusal}
+use Rattle.org_requests.specs.declared.refusals.Refusal.TheVariants.{Forbidden}
 use Rattle.org_core.specs.Contexts.{Context}
-use Rattle.org_core.specs.Requests.{is_operator}
+use Rattle.org_requests.specs.Requests.{is_operator}
 use Rattle.org_core.specs.States.{list_in, membership_of}
 
 -- the permission that is needed

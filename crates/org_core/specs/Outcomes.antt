@@ -1,34 +1,39 @@
 -- What comes of a request on one organisation.
 use Rattle.std.specs.Prelude.{◌≡◌, ◌≤◌, ◌+◌, true, ℕ, List, [], Option, Some, None, Result, Ok, Err, codes}
 use Rattle.doc_tree.specs.Doc.{Doc, words}
-use Rattle.org_core.specs.declared.groups.Prepared.{Prepared}
+use Rattle.org_core.specs.declared.rules.Prepared.{Prepared}
 use Rattle.org_core.specs.declared.moves.Move.{Move}
-use Rattle.org_core.specs.declared.refusals.Refusal.{Refusal}
-use Rattle.org_core.specs.declared.refusals.Stop.{Stop}
-use Rattle.org_core.specs.declared.refusals.Stop.TheVariants.{Refused, NoMemory}
-use Rattle.org_core.specs.declared.replies.Reply.{Reply}
-use Rattle.org_core.specs.Refusals.{reply_to}
-use Rattle.org_core.specs.Replies.{with_body, one_key}
+use Rattle.org_requests.specs.declared.refusals.Refusal.{Refusal}
+use Rattle.org_requests.specs.declared.refusals.Stop.{Stop}
+use Rattle.org_requests.specs.declared.refusals.Stop.TheVariants.{Refused, NoMemory}
+use Rattle.org_requests.specs.declared.replies.Reply.{Reply}
+use Rattle.org_requests.specs.Refusals.{reply_to}
+use Rattle.org_requests.specs.Replies.{with_body, one_key}
 
 -- a reply that says that all is well: 200 with a document, 201 with a document, or 200 with raw bytes
-pub data Told : Type 0 where
-  shows : Doc → Told
-  makes : Doc → Told
-  gives : List ℕ → Told
+pub data Success : Type 0 where
+  shows : Doc → Success
+  makes : Doc → Success
+  gives : List ℕ → Success
 
 -- 201 with the path of what was created
-abbrev pub creates : List ℕ → Told
+abbrev pub creates : List ℕ → Success
 creates path = makes (one_key (codes "uri") (words path))
 
+-- what is put in: 201 where nothing stood in its place, and else 200
+abbrev pub makes_or_shows : {A : Type 0} → Option A → Doc → Success
+makes_or_shows None doc = makes doc
+makes_or_shows (Some before) doc = shows doc
+
 -- the reply that tells it
-abbrev pub reply_of : Told → Reply
+abbrev pub reply_of : Success → Reply
 reply_of (shows doc) = with_body 200 doc
 reply_of (makes doc) = with_body 201 doc
 reply_of (gives bytes) = record { status = 200; octets = true; body = bytes }
 
 -- what an operation does: what is told of it, and the moves that it makes
 pub record Done : Type 0 where
-  pub told : Told
+  pub told : Success
   pub moves : List Move
 
 -- how a request is decided: what it does or why it is refused, how many bodies of objects were looked at, and of how many
@@ -39,15 +44,15 @@ pub record Decided : Type 0 where
   pub searched : Option ℕ
 
 -- something is told, with these moves and looks
-abbrev pub does_by : Told → List Move → ℕ → Decided
+abbrev pub does_by : Success → List Move → ℕ → Decided
 does_by told moves looks = record { answer = Ok (record { told = told; moves = moves }); looks = looks; searched = None }
 
 -- something is told, and nothing was looked at
-abbrev pub tells : Told → Decided
+abbrev pub tells : Success → Decided
 tells told = does_by told [] 0
 
 -- something is told of one object, which was looked at
-abbrev pub reads : Told → Decided
+abbrev pub reads : Success → Decided
 reads told = does_by told [] 1
 
 -- a refusal, before anything was looked at
@@ -86,12 +91,12 @@ outcome_of (Err refusal) = record { reply = reply_to refusal; moves = [] }
 abbrev pub Prepares : Prepared → Done → Type 0
 Prepares prepared done = (prepared.reply ≡ reply_of done.told) × (prepared.moves ≡ done.moves)
 
--- what was found is what was decided; want of memory finds nothing
-abbrev pub Finds : Result Prepared Stop → Result Done Refusal → Type 0
-Finds (Ok prepared) (Ok done) = Prepares prepared done
-Finds (Ok prepared) (Err refusal) = ⊥
-Finds (Err (Refused refusal)) due = due ≡ Err refusal
-Finds (Err NoMemory) due = Unit {0}
+-- what was prepared is what was decided, and a refusal is the one that was; want of memory says nothing
+abbrev pub IsAsDecided : Result Prepared Stop → Result Done Refusal → Type 0
+IsAsDecided (Ok prepared) (Ok done) = Prepares prepared done
+IsAsDecided (Ok prepared) (Err refusal) = ⊥
+IsAsDecided (Err (Refused refusal)) due = due ≡ Err refusal
+IsAsDecided (Err NoMemory) due = Unit {0}
 
 -- at most so many bodies were looked at: each is one step
 abbrev pub LooksAtMost : ℕ → ℕ → ℕ → Type 0

@@ -7,17 +7,13 @@ use Rattle.std.specs.Coded.{Coded, code_by, coded_list, coded_ℕ, coded_bool, c
 use Rattle.std.specs.FinMap as map
 use Rattle.doc_tree.specs.Doc.{Doc}
 use Rattle.doc_tree.specs.declared.kind.Kind.{Kind}
+use Rattle.membership.specs.Members.{Membership, nobody}
+use Rattle.membership.specs.Rooms as groups
 use Rattle.access_lists.specs.declared.acl.Acl.{Acl}
-use Rattle.access_lists.specs.Members.{Membership, nobody}
-use Rattle.access_lists.specs.Rooms as groups
 use Rattle.object_store.specs.Objects.{Objects, Lists, key, Store, store_code, smaller}
 use Rattle.object_store.specs.declared.key.Key.{Key}
 use Rattle.org_shelves.specs.Shelved as shelves
 use Rattle.org_shelves.specs.Shelved.{Cookbooks, Shelved}
-
--- names are ordered by their bytes
-abbrev pub name_cmp : List ℕ → List ℕ → Ordering
-name_cmp = slice_cmp nat_cmp
 
 -- what an organisation that is there holds: its objects, their access lists, its users, clients and groups, and what it
 -- keeps on shelves: versions of cookbooks, artifacts, policies and policy groups

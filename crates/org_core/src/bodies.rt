@@ -1,42 +1,17 @@
-//! The tree of a body and the object that it says, or why there is none.
+//! The object that a body says, or why there is none.
 
 ghost use Rattle.std.specs.Prelude.{◌≡◌, IsTrue, Ok, Some, option_copied};
-ghost use Rattle.std.specs.Result.{result_map_both};
 ghost use Rattle.doc_tree.specs.Name.{is_name};
 ghost use Rattle.doc_tree.specs.Tree.{doc_of};
 ghost use Rattle.object_forms.specs.Kinds.{IsFormed};
 ghost use Rattle.org_core.specs.Bodies as spec;
-ghost use Rattle.org_core.specs.Refusals.{Tells};
+ghost use Rattle.org_requests.specs.Refusals.{Tells};
 
-use crate::refusals::{Refusal, Stop};
-use crate::requests::{BadBody, Body};
 use crate::stored::Stored;
 use doc_tree::{Kind, Name, Text, Tree};
 use object_forms::{FormFault, read_object};
+use org_requests::{Body, Refusal, Stop, document_in};
 use std::alloc::Global;
-
-/// The tree of a body; or 400, by the fault of its text, also of a body that is missing or
-/// wasn't read as text; or 413.
-pub fn document_in(body: &Body) -> Result<&Tree, Refusal>
-    ensures { result_map_both (λ t. doc_of t.now) (λ refusal. refusal) result ≡ spec.document_in body.now }
-{
-    match body {
-        Body::Doc(tree) => Ok(tree),
-        Body::Bad(fault) => Err(unreadable(*fault)),
-        Body::Empty | Body::Raw(_) => Err(Refusal::NotJson),
-        Body::TooLong => Err(Refusal::TooLarge),
-    }
-}
-
-fn unreadable(fault: BadBody) -> Refusal
-    ensures { result ≡ spec.unreadable fault }
-{
-    match fault {
-        BadBody::NotJson => Refusal::NotJson,
-        BadBody::TooDeep => Refusal::TooDeep,
-        BadBody::NotWhole => Refusal::NotWhole,
-    }
-}
 
 /// The object of this kind that a body says, as it is stored; where it is replaced, of this name.
 pub fn object_in_body(
@@ -74,16 +49,5 @@ pub fn object_named(alloc: Global, kind: Kind, name: &Text, body: &Body) -> Resu
     match Name::of(name.copy(alloc)?) {
         Ok(name) => object_in_body(alloc, kind, Some(&name), body),
         Err(_) => unreachable!(),
-    }
-}
-
-/// The refusal of a body that is for what nobody can have made: it has only to be readable, and then
-/// nothing is there.
-pub fn absent(body: &Body) -> Refusal
-    ensures { result ≡ spec.absent (spec.document_in body.now) }
-{
-    match document_in(body) {
-        Ok(_) => Refusal::NotFound,
-        Err(refusal) => refusal,
     }
 }

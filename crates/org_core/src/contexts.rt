@@ -1,8 +1,5 @@
 //! What a group of routes is lent: whose request it is, who asks, and the organisation's state.
 
-ghost use Rattle.std.specs.Prelude.{◌≡◌};
-ghost use Rattle.org_core.specs.Requests as requests;
-
 use crate::org_state::OrgState;
 use dep_solver::Solved;
 use doc_tree::Text;
@@ -32,14 +29,4 @@ pub struct Lent<'l, F: Finder> {
     /// A solution that was found beforehand, which saves a search where it is of the very same universe, rules
     /// and roots.
     pub hint: Option<&'l Solved>,
-}
-
-/// Whether the caller is the operator.
-pub fn is_operator(caller: &Option<Text>) -> bool
-    ensures { result ≡ requests.is_operator caller.now }
-{
-    match caller {
-        None => false,
-        Some(caller) => caller.as_str() == "pivotal",
-    }
 }

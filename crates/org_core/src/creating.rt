@@ -3,19 +3,19 @@
 ghost use Rattle.std.specs.Prelude.{◌≡◌, ◌++◌, ◌∷◌, [], Ok, IfOk, OnOk};
 ghost use Rattle.org_core.specs.Contexts.{seen};
 ghost use Rattle.org_core.specs.Creating as spec;
-ghost use Rattle.org_core.specs.Outcomes.{Finds};
+ghost use Rattle.org_core.specs.Outcomes.{IsAsDecided};
 ghost use Rattle.org_core.specs.States.{state_in};
 
 use crate::contexts::Context;
-use crate::groups::Prepared;
 use crate::moves::{Move, Moves};
 use crate::needs::key_of;
 use crate::org_state::OrgState;
-use crate::replies::created;
+use crate::rules::Prepared;
 use crate::stored::Stored;
 use access_lists::{Acl, Container, starting_list};
 use doc_tree::{Kind, NoMemory, Text};
 use object_store::Key;
+use org_requests::created;
 use std::alloc::Global;
 
 /// The access list of what the caller creates in a container: the container's list, with the caller as
@@ -98,7 +98,7 @@ pub fn add_both(moves: &mut Moves, one: Move, other: Move) -> Result<(), NoMemor
 
 /// Something is created by these moves: 201 with its path.
 pub fn create_by(alloc: Global, path: Text, moves: Moves) -> Result<Prepared, NoMemory>
-    ensures { IfOk result (λ p. Finds (Ok p) (spec.created_by path moves).answer) }
+    ensures { IfOk result (λ p. IsAsDecided (Ok p) (spec.created_by path moves).answer) }
 {
     let reply = created(alloc, path)?;
     Ok(Prepared { reply, moves })

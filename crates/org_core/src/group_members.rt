@@ -2,7 +2,7 @@
 
 ghost use Rattle.std.specs.Prelude.{◌≡◌};
 
-use access_lists::Group;
+use membership::Group;
 use std::marker::Model;
 
 /// The members of a group. Contracts see them, and not the room for more.
@@ -12,7 +12,7 @@ pub struct GroupMembers {
 }
 
 impl Model for GroupMembers {
-    ghost use Rattle.access_lists.specs.Members.{Members, members_code};
+    ghost use Rattle.membership.specs.Members.{Members, members_code};
 
     ghost Value = { Members };
 

@@ -6,10 +6,10 @@ ghost use Rattle.org_core.specs.Contexts.{seen};
 ghost use Rattle.org_core.specs.Needs as spec;
 
 use crate::contexts::Context;
-use crate::refusals::Refusal;
 use access_lists::{Perm, permitted};
 use doc_tree::{Kind, Listed, NoMemory, Text};
 use object_store::Key;
+use org_requests::Refusal;
 use std::alloc::Global;
 
 /// A permission that an operation needs, and where it is looked up.

@@ -8,20 +8,21 @@ ghost use Rattle.object_store.specs.Objects.{names_in};
 ghost use Rattle.doc_tree.specs.declared.kind.Kind.TheVariants as kinds;
 ghost use Rattle.org_core.specs.Conditions.{MeetsConditions};
 ghost use Rattle.std.specs.FinMap as finite;
-ghost use Rattle.access_lists.specs.Changes.{with_client, with_groups, with_user, without_client, without_user};
+ghost use Rattle.membership.specs.Changes.{with_client, with_groups, with_user, without_client, without_user};
 ghost use Rattle.org_core.specs.States.{state_in, state_from, cookbooks_of, shelved_of, objects_of, lists_of, object_in, has_object, list_in, membership_of, room_for, IsNobody};
 ghost use Rattle.org_core.specs.FileMoves.{files_after, files_after_move, files_put_in as spec_files_put_in, takes_file_room, takes_shelf_room, shelved_by as spec_shelved_by};
 ghost use Rattle.org_core.specs.Rooms.{HasRoom};
 ghost use Rattle.shelves.specs.Shelves.{shelves_of};
 ghost use Rattle.version_rules.specs.Order.{version_cmp};
 ghost use Rattle.sandboxes.specs.Files.{holding_of, spare_of, OthersStay};
-ghost use Rattle.org_core.specs.Moves.{HasPlace, HasPlaceFirst, IsOrderly, after_move, after_moves, group_joined, joins, leaves, lists_without_actor, lists_without_group, takes_room};
+ghost use Rattle.org_core.specs.Moves.{HasRoomToJoin, HasRoomToJoinFirst, IsOrderly, after_move, after_moves, group_joined, joins, leaves, lists_without_actor, lists_without_group, takes_room};
 
 use crate::comers::Comer;
 use crate::file_moves::make_on_files;
 use crate::moves::{Move, Moves, files_put_in, puts_in, shelved_by};
-use access_lists::{Acl, Groups, MemberKind};
+use access_lists::Acl;
 use doc_tree::{Kind, NoMemory, Steps, Text, Texts, Tree};
+use membership::{Groups, MemberKind};
 use object_store::{Key, Objects};
 use org_shelves::{Cookbooks, OrgShelves, make_on_shelves};
 use sandboxes::Files;
@@ -223,7 +224,7 @@ impl OrgState {
         let count = puts_in(moves.as_slice());
         self.objects.reserve(count)?;
         self.groups.reserve(count)?;
-        make_place_first(&mut self.groups, moves.as_slice())?;
+        make_room_to_join_first(&mut self.groups, moves.as_slice())?;
         self.shelves.reserve(shelved_by(moves.as_slice()))?;
         reserve_files(alloc, files, &self.org, files_put_in(moves.as_slice()))
     }
@@ -270,21 +271,21 @@ fn copy_both(
 }
 
 // Makes room for one more member in the group that the first of these moves has somebody join.
-fn make_place_first(groups: &mut Groups, moves: &[Move]) -> Result<(), NoMemory>
+fn make_room_to_join_first(groups: &mut Groups, moves: &[Move]) -> Result<(), NoMemory>
     ensures membership { groups.new.membership ≡ groups.old.membership }
     ensures spare { groups.new.spare ≡ groups.old.spare }
-    ensures place { OnOk result (HasPlaceFirst moves.now groups.new) }
+    ensures joining { OnOk result (HasRoomToJoinFirst moves.now groups.new) }
 {
     match moves {
         [] => Ok(()),
-        [first, ..] => make_place(groups, first.group_joined()),
+        [first, ..] => make_room_to_join(groups, first.group_joined()),
     }
 }
 
-fn make_place(groups: &mut Groups, group: Option<&Text>) -> Result<(), NoMemory>
+fn make_room_to_join(groups: &mut Groups, group: Option<&Text>) -> Result<(), NoMemory>
     ensures membership { groups.new.membership ≡ groups.old.membership }
     ensures spare { groups.new.spare ≡ groups.old.spare }
-    ensures place { OnOk result (HasPlace (option_copied group.entry) groups.new) }
+    ensures joining { OnOk result (HasRoomToJoin (option_copied group.entry) groups.new) }
 {
     match group {
         Some(name) => groups.reserve_in(name, 1),
@@ -337,7 +338,7 @@ fn make(
     one: Move,
 )
     requires room { cond (takes_room one) 1 0 ≤ room_for objects.old groups.old }
-    requires place { HasPlace (group_joined one) groups.old }
+    requires joining { HasRoomToJoin (group_joined one) groups.old }
     requires nobody { IsNobody there.old objects.old groups.old shelves.old }
     requires shelf { cond (takes_shelf_room one) 1 0 ≤ shelves.old.spare }
     requires spare { cond (takes_file_room one) 1 0 ≤ spare_of files.old org.now }
@@ -368,7 +369,7 @@ fn make_there(
     one: Move,
 )
     requires room { cond (takes_room one) 1 0 ≤ room_for objects.old groups.old }
-    requires place { HasPlace (group_joined one) groups.old }
+    requires joining { HasRoomToJoin (group_joined one) groups.old }
     requires shelf { cond (takes_shelf_room one) 1 0 ≤ shelves.old.spare }
     requires spare { cond (takes_file_room one) 1 0 ≤ spare_of files.old org.now }
     ensures state { state_from true objects.new groups.new shelves.new ≡ after_move one (state_from true objects.old groups.old shelves.old) }
@@ -397,7 +398,7 @@ fn make_there(
 
 fn add_user(groups: &mut Groups, comer: Comer)
     requires room { 1 ≤ groups.old.spare }
-    requires place { HasPlace (Some comer.group) groups.old }
+    requires joining { HasRoomToJoin (Some comer.group) groups.old }
     ensures membership { groups.new.membership ≡ joins comer.group MemberKind.User comer.name (with_user comer.name groups.old.membership) }
     ensures spare { groups.old.spare ≤ groups.new.spare + 1 }
 {
@@ -408,7 +409,7 @@ fn add_user(groups: &mut Groups, comer: Comer)
 
 fn add_client(groups: &mut Groups, comer: Comer)
     requires room { 1 ≤ groups.old.spare }
-    requires place { HasPlace (Some comer.group) groups.old }
+    requires joining { HasRoomToJoin (Some comer.group) groups.old }
     ensures membership { groups.new.membership ≡ joins comer.group MemberKind.Client comer.name (with_client comer.name groups.old.membership) }
     ensures spare { groups.old.spare ≤ groups.new.spare + 1 }
 {
@@ -419,7 +420,7 @@ fn add_client(groups: &mut Groups, comer: Comer)
 
 // The member joins the group, where there is one.
 fn join(groups: &mut Groups, group: &Text, kind: MemberKind, member: Text)
-    requires { HasPlace (Some group.now) groups.old }
+    requires { HasRoomToJoin (Some group.now) groups.old }
     ensures membership { groups.new.membership ≡ joins group.now kind member groups.old.membership }
     ensures spare { groups.new.spare ≡ groups.old.spare }
 {

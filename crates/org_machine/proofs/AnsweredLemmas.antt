@@ -1,14 +1,14 @@
 -- What the rules of a group keep, the order of refusals over them keeps.
 use Rattle.std.proofs.Common.{◌≡◌, Bool, true, false, Option, Some, None, Result, Ok, Err, refl}
-use Rattle.org_core.specs.declared.refusals.Refusal.{Refusal}
-use Rattle.org_core.specs.declared.refusals.Refusal.TheVariants.{NotFound}
-use Rattle.org_core.specs.declared.requests.Request.{Request}
+use Rattle.org_requests.specs.declared.refusals.Refusal.{Refusal}
+use Rattle.org_requests.specs.declared.refusals.Refusal.TheVariants.{NotFound}
+use Rattle.org_requests.specs.declared.requests.Request.{Request}
 use Rattle.org_core.specs.Conditions.{MeetsConditions}
 use Rattle.org_core.specs.Contexts.{Context}
 use Rattle.org_core.specs.Keeping.{LeadsToConditions, KeepsConditions}
 use Rattle.org_core.specs.Needs.{lacking}
 use Rattle.org_core.specs.Outcomes.{Decided, unless}
-use Rattle.org_core.specs.Refusals.{refuses}
+use Rattle.org_requests.specs.Refusals.{refuses}
 use Rattle.org_core.specs.Rules.{Rules}
 use Rattle.org_core.specs.States.{State}
 use Rattle.org_machine.specs.Order.{done_by, permitted, found, by_operation, answered_by}

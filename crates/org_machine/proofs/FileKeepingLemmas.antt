@@ -3,42 +3,30 @@ use Rattle.std.proofs.Common.{◌≡◌, ℕ, List, [], ◌∷◌, Option, Some,
 use Rattle.doc_tree.specs.Doc.{dict, no_pairs}
 use Rattle.access_lists.specs.declared.perm.Perm.TheVariants as permission
 use Rattle.org_shelves.proofs.StayingLemmas.{nothing_there}
-use Rattle.route_table.specs.declared.verbs.Verb.{Verb}
-use Rattle.route_table.specs.declared.verbs.Verb.TheVariants.{Get, Post, Put, Delete, Other}
-use Rattle.org_core.proofs.FileConditionsLemmas.{moves_keep_files}
+use Rattle.org_requests.specs.declared.verbs.Verb.{Verb}
+use Rattle.org_requests.specs.declared.verbs.Verb.TheVariants.{Get, Post, Put, Delete, Other}
 use Rattle.org_core.specs.declared.needs.Need.TheVariants.{Operator}
-use Rattle.org_core.specs.declared.refusals.Refusal.{Refusal}
-use Rattle.org_core.specs.declared.refusals.Refusal.TheVariants.{NotFound}
-use Rattle.org_core.specs.declared.requests.Body.{Body}
-use Rattle.org_core.specs.declared.requests.Place.{Place}
-use Rattle.org_core.specs.declared.requests.Place.TheVariants.{Of, Organisations, LeftOut, NoRoute, NoMemory}
-use Rattle.org_core.specs.declared.requests.Request.{Request}
-use Rattle.org_core.specs.declared.routes.Route.{Route}
-use Rattle.org_core.specs.declared.routes.Route.TheVariants.{Organisation, Objects, Data, Access, Cookbooks, Policies, Search}
+use Rattle.org_requests.specs.declared.refusals.Refusal.{Refusal}
+use Rattle.org_requests.specs.declared.refusals.Refusal.TheVariants.{NotFound}
+use Rattle.org_requests.specs.declared.requests.Body.{Body}
+use Rattle.org_requests.specs.declared.requests.Place.{Place}
+use Rattle.org_requests.specs.declared.requests.Place.TheVariants.{Of, Organisations, LeftOut, NoRoute, NoMethod, NoMemory}
+use Rattle.org_requests.specs.declared.requests.Request.{Request}
+use Rattle.org_requests.specs.Routes.{Route}
 use Rattle.org_core.specs.Contexts.{Context}
 use Rattle.org_core.specs.FileMoves.{after_all}
 use Rattle.org_core.specs.FullStates.{FullState, MeetsFileConditions, none}
-use Rattle.org_core.specs.Keeping.{KeepsFileConditions, NeverShelves, full_of}
+use Rattle.org_core.specs.Keeping.{KeepsFileConditions, full_of}
 use Rattle.org_core.specs.Needs.{lacking}
 use Rattle.org_core.specs.Outcomes.{Decided, outcome_of, shows, tells, unless}
-use Rattle.org_core.specs.Refusals.{refuses}
-use Rattle.org_core.specs.Requests.{org_at}
+use Rattle.org_requests.specs.Refusals.{refuses}
+use Rattle.org_requests.specs.Requests.{org_at}
 use Rattle.org_core.specs.Rules.{Rules}
-use Rattle.access_routes.proofs.AccessLemmas.{access_puts_none}
-use Rattle.access_routes.specs.AccessRules.{access_rules}
-use Rattle.cookbook_routes.proofs.FileKeepingLemmas.{cookbooks_keep_files}
-use Rattle.cookbook_routes.specs.CookbookRules.{cookbook_rules}
-use Rattle.object_routes.proofs.ShelflessLemmas.{data_put_none, objects_put_none, organisations_put_none}
-use Rattle.object_routes.specs.DataBags.{data_rules}
-use Rattle.object_routes.specs.Objects.{objects_rules}
-use Rattle.object_routes.specs.Organisations.{organisation_rules}
-use Rattle.policy_routes.proofs.FileKeepingLemmas.{policies_keep_files}
-use Rattle.policy_routes.specs.PolicyRules.{policy_rules}
-use Rattle.search_routes.proofs.SearchLemmas.{searches_put_none}
-use Rattle.search_routes.specs.SearchRules.{search_rules}
-use Rattle.org_machine.specs.Heads.{head_refusal}
+use Rattle.org_machine.proofs.Groups.{all_lawful, at_route_is}
+use Rattle.org_requests.specs.Heads.{head_refusal}
 use Rattle.org_machine.specs.Marks.{Mark, served, short, down, after, own_name}
 use Rattle.org_machine.specs.Order.{absence_refusal, done_by, permitted, found, by_operation, answered_by}
+use Rattle.org_machine.specs.Placing.{placed}
 use Rattle.org_machine.specs.Steps.{asks_for_organisation, at_organisations, at_place, at_route, context, step}
 
 -- what was decided leads from these files to files that meet their conditions
@@ -63,19 +51,11 @@ module _ {Route Operation : Type 0} where
       → LeadsTo context.org (full_of context) (answered_by rules context route request)
   answered_files rules keeps context route request meets = by_operation_files rules keeps context route request (rules.operation context route request) meets refl
 
-  -- a group that puts nothing on a shelf keeps them
-  shelfless_keeps : (rules : Rules Route Operation) → NeverShelves rules → KeepsFileConditions rules
-  shelfless_keeps rules puts context route request operation meets is free = moves_keep_files context.org (outcome_of (rules.does context operation).answer).moves (full_of context) (puts context operation) meets
-
--- a route keeps the conditions of files by the law of its group, one line a group
+-- a route keeps the conditions of files by the law of its group
 at_route_files : (context : Context) (route : Route) (request : Request) → MeetsFileConditions (full_of context) → LeadsTo context.org (full_of context) (at_route context route request)
-at_route_files context (Organisation route) request meets = answered_files organisation_rules (shelfless_keeps organisation_rules organisations_put_none) context route request meets
-at_route_files context (Objects collection route) request meets = answered_files (objects_rules collection) (shelfless_keeps (objects_rules collection) (objects_put_none collection)) context route request meets
-at_route_files context (Data route) request meets = answered_files data_rules (shelfless_keeps data_rules data_put_none) context route request meets
-at_route_files context (Access route) request meets = answered_files access_rules (shelfless_keeps access_rules access_puts_none) context route request meets
-at_route_files context (Cookbooks route) request meets = answered_files cookbook_rules cookbooks_keep_files context route request meets
-at_route_files context (Policies route) request meets = answered_files policy_rules policies_keep_files context route request meets
-at_route_files context (Search route) request meets = answered_files search_rules (shelfless_keeps search_rules searches_put_none) context route request meets
+at_route_files context route request meets =
+    let its = placed route in
+    subst (LeadsTo context.org (full_of context)) (sym (at_route_is context route request)) (answered_files its.rules (all_lawful route).keeps_files context its.route request meets)
 
 at_organisations_files : (state : FullState) (caller : Option (List ℕ)) (verb : Verb) (body : Body) → MeetsFileConditions state → LeadsTo [] state (at_organisations caller verb body)
 at_organisations_files state caller Get body meets = unless_files [] state (lacking (context [] caller none) (Operator permission.Read ∷ [])) (tells (shows (dict no_pairs))) meets (λ _. meets)
@@ -95,6 +75,7 @@ at_place_files (Of org route) request state meets =
 at_place_files Organisations request state meets = at_organisations_files state request.caller request.verb request.body meets
 at_place_files LeftOut request state meets = meets
 at_place_files NoRoute request state meets = meets
+at_place_files (NoMethod org) request state meets = meets
 at_place_files NoMemory request state meets = meets
 
 -- each step leads from files that meet their conditions to files that do

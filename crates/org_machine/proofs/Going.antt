@@ -3,9 +3,9 @@ use Rattle.std.proofs.Common.{◌≡◌, ℕ, Bool, true, false, cond, List, [],
 use Rattle.std.specs.Cmp.Lexicographic.{bytes_decides}
 use Rattle.std.proofs.lemmas.List.{map-append}
 use Rattle.std.proofs.lemmas.List.Elements.{filter-append}
-use Rattle.org_core.specs.declared.replies.Reply.{Reply}
-use Rattle.org_core.specs.declared.requests.Request.{Request}
-use Rattle.org_core.specs.Requests.{org_of, has_name, is_of}
+use Rattle.org_requests.specs.declared.replies.Reply.{Reply}
+use Rattle.org_requests.specs.declared.requests.Request.{Request}
+use Rattle.org_requests.specs.Requests.{org_of, has_name, is_of}
 use Rattle.org_core.specs.FullStates.{FullState}
 use Rattle.org_machine.specs.Marks.{mark_of, answer, after, IsLawful}
 use Rattle.org_machine.specs.Alone.{Exchange, Asked, asked_in, own, replies_alone, state_alone, MarksAreLawful, RunsAlone, States, OutsideAnswer, OutsideAnswered, states_after, Alone}

@@ -1,5 +1,6 @@
 pub mod AnsweredLemmas
 pub mod Going
+pub mod Groups
 pub mod KeepingLemmas
 pub mod FileKeepingLemmas
 pub mod FindingLemmas

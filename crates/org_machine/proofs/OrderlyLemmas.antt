@@ -3,39 +3,28 @@ use Rattle.std.proofs.Common.{ℕ, List, [], ◌∷◌, Option, Some, None, Resu
 use Rattle.access_lists.specs.declared.perm.Perm.TheVariants as permission
 use Rattle.doc_tree.specs.Doc.{dict, no_pairs}
 use Rattle.org_core.specs.declared.needs.Need.TheVariants.{Operator}
-use Rattle.org_core.specs.declared.groups.Prepared.{Prepared}
-use Rattle.org_core.specs.declared.refusals.Refusal.{Refusal}
-use Rattle.org_core.specs.declared.refusals.Refusal.TheVariants.{NotFound}
-use Rattle.org_core.specs.declared.requests.Body.{Body}
-use Rattle.org_core.specs.declared.requests.Place.{Place}
-use Rattle.org_core.specs.declared.requests.Place.TheVariants.{Of, Organisations, LeftOut, NoRoute, NoMemory}
-use Rattle.org_core.specs.declared.requests.Request.{Request}
-use Rattle.org_core.specs.declared.routes.Route.{Route}
-use Rattle.org_core.specs.declared.routes.Route.TheVariants.{Organisation, Objects, Data, Access, Cookbooks, Policies, Search}
+use Rattle.org_core.specs.declared.rules.Prepared.{Prepared}
+use Rattle.org_requests.specs.declared.refusals.Refusal.{Refusal}
+use Rattle.org_requests.specs.declared.refusals.Refusal.TheVariants.{NotFound}
+use Rattle.org_requests.specs.declared.requests.Body.{Body}
+use Rattle.org_requests.specs.declared.requests.Place.{Place}
+use Rattle.org_requests.specs.declared.requests.Place.TheVariants.{Of, Organisations, LeftOut, NoRoute, NoMethod, NoMemory}
+use Rattle.org_requests.specs.declared.requests.Request.{Request}
+use Rattle.org_requests.specs.Routes.{Route}
 use Rattle.org_core.specs.Contexts.{Context}
 use Rattle.org_core.specs.Keeping.{MakesOrderly, IsOrderlyGroup}
 use Rattle.org_core.specs.Moves.{IsOrderly}
 use Rattle.org_core.specs.Needs.{lacking}
-use Rattle.org_core.specs.Outcomes.{Decided, Done, Finds, shows, tells, unless, outcome_of}
-use Rattle.org_core.specs.Refusals.{refuses}
+use Rattle.org_core.specs.Outcomes.{Decided, Done, IsAsDecided, shows, tells, unless, outcome_of}
+use Rattle.org_requests.specs.Refusals.{refuses}
 use Rattle.org_core.specs.Rules.{Rules}
 use Rattle.org_core.specs.FullStates.{FullState, none}
-use Rattle.route_table.specs.declared.verbs.Verb.{Verb}
-use Rattle.route_table.specs.declared.verbs.Verb.TheVariants.{Get, Post, Put, Delete, Other}
-use Rattle.access_routes.proofs.AccessLemmas.{access_orderly}
-use Rattle.access_routes.specs.AccessRules.{access_rules}
-use Rattle.cookbook_routes.proofs.OrderlyLemmas.{cookbooks_orderly}
-use Rattle.cookbook_routes.specs.CookbookRules.{cookbook_rules}
-use Rattle.object_routes.proofs.OrderlyLemmas.{organisations_orderly, objects_orderly, data_orderly}
-use Rattle.object_routes.specs.DataBags.{data_rules}
-use Rattle.object_routes.specs.Objects.{objects_rules}
-use Rattle.object_routes.specs.Organisations.{organisation_rules}
-use Rattle.policy_routes.proofs.OrderlyLemmas.{policies_orderly}
-use Rattle.search_routes.proofs.SearchLemmas.{searches_orderly}
-use Rattle.policy_routes.specs.PolicyRules.{policy_rules}
-use Rattle.search_routes.specs.SearchRules.{search_rules}
-use Rattle.org_machine.specs.Heads.{head_refusal}
+use Rattle.org_requests.specs.declared.verbs.Verb.{Verb}
+use Rattle.org_requests.specs.declared.verbs.Verb.TheVariants.{Get, Post, Put, Delete, Other}
+use Rattle.org_machine.proofs.Groups.{all_lawful, at_route_is}
+use Rattle.org_requests.specs.Heads.{head_refusal}
 use Rattle.org_machine.specs.Order.{absence_refusal, done_by, permitted, found, by_operation, answered_by}
+use Rattle.org_machine.specs.Placing.{placed}
 use Rattle.org_machine.specs.Steps.{at_route, asks_for_organisation, context, at_organisations, at_place, decided}
 
 -- a refusal makes no move
@@ -54,15 +43,11 @@ module _ {Route Operation : Type 0} where
   answered_orderly : (rules : Rules Route Operation) → IsOrderlyGroup rules → (context : Context) (route : Route) (request : Request) → MakesOrderly (answered_by rules context route request)
   answered_orderly rules orderly context route request = by_operation_orderly rules orderly context (rules.operation context route request)
 
--- one line a group
+-- those of a route are by the law of its group
 at_route_orderly : (context : Context) (route : Route) (request : Request) → MakesOrderly (at_route context route request)
-at_route_orderly context (Organisation route) request = answered_orderly organisation_rules organisations_orderly context route request
-at_route_orderly context (Objects collection route) request = answered_orderly (objects_rules collection) (objects_orderly collection) context route request
-at_route_orderly context (Data route) request = answered_orderly data_rules data_orderly context route request
-at_route_orderly context (Access route) request = answered_orderly access_rules access_orderly context route request
-at_route_orderly context (Cookbooks route) request = answered_orderly cookbook_rules cookbooks_orderly context route request
-at_route_orderly context (Policies route) request = answered_orderly policy_rules policies_orderly context route request
-at_route_orderly context (Search route) request = answered_orderly search_rules searches_orderly context route request
+at_route_orderly context route request =
+    let its = placed route in
+    subst MakesOrderly (sym (at_route_is context route request)) (answered_orderly its.rules (all_lawful route).orderly context its.route request)
 
 organisations_orderly_too : (caller : Option (List ℕ)) (verb : Verb) (body : Body) → MakesOrderly (at_organisations caller verb body)
 organisations_orderly_too caller Get body = unless_orderly (lacking (context [] caller none) (Operator permission.Read ∷ [])) (tells (shows (dict no_pairs))) refl
@@ -78,16 +63,17 @@ at_place_orderly (Of org route) request state =
 at_place_orderly Organisations request state = organisations_orderly_too request.caller request.verb request.body
 at_place_orderly LeftOut request state = refl
 at_place_orderly NoRoute request state = refl
+at_place_orderly (NoMethod org) request state = refl
 at_place_orderly NoMemory request state = refl
 
 -- the moves of each step are orderly
 pub decided_orderly : (request : Request) (state : FullState) → MakesOrderly (decided request state)
 decided_orderly request state = unless_orderly (head_refusal request) (at_place request.place request state) (at_place_orderly request.place request state)
 
-found_of : (prepared : Prepared) (answer : Result Done Refusal) → IsOrderly (outcome_of answer).moves → Finds (Ok prepared) answer → IsOrderly prepared.moves
-found_of prepared (Ok done) orderly finds = subst IsOrderly (sym finds.1) orderly
-found_of prepared (Err refusal) orderly finds = absurd finds
+prepared_of : (prepared : Prepared) (answer : Result Done Refusal) → IsOrderly (outcome_of answer).moves → IsAsDecided (Ok prepared) answer → IsOrderly prepared.moves
+prepared_of prepared (Ok done) orderly same = subst IsOrderly (sym same.1) orderly
+prepared_of prepared (Err refusal) orderly same = absurd same
 
--- and so are those that were found
-pub found_orderly : (prepared : Prepared) (due : Decided) → MakesOrderly due → Finds (Ok prepared) due.answer → IsOrderly prepared.moves
-found_orderly prepared due orderly finds = found_of prepared due.answer orderly finds
+-- and so are those that were prepared
+pub prepared_orderly : (prepared : Prepared) (due : Decided) → MakesOrderly due → IsAsDecided (Ok prepared) due.answer → IsOrderly prepared.moves
+prepared_orderly prepared due orderly same = prepared_of prepared due.answer orderly same

@@ -1,23 +1,23 @@
 -- What is of no organisation is answered the same in every state.
 use Rattle.std.proofs.Common.{◌≡◌, inl, inr, ℕ, List, [], ◌∷◌, Bool, false, cond, Option, Some, None, refl, sym, ap, subst, ◌∙◌}
-use Rattle.org_core.specs.declared.refusals.Refusal.{Refusal}
-use Rattle.org_core.specs.declared.replies.Reply.{Reply}
+use Rattle.org_requests.specs.declared.refusals.Refusal.{Refusal}
+use Rattle.org_requests.specs.declared.replies.Reply.{Reply}
 use Rattle.doc_tree.specs.Doc.{dict, no_pairs}
 use Rattle.org_core.specs.declared.needs.Need.TheVariants.{Operator}
 use Rattle.access_lists.specs.declared.perm.Perm.TheVariants as permission
-use Rattle.org_core.specs.declared.requests.Body.{Body}
+use Rattle.org_requests.specs.declared.requests.Body.{Body}
 use Rattle.org_core.specs.Needs.{lacking}
-use Rattle.org_core.specs.declared.requests.Place.{Place}
-use Rattle.org_core.specs.declared.requests.Place.TheVariants.{Of, Organisations, LeftOut, NoRoute, NoMemory}
-use Rattle.org_core.specs.declared.requests.Request.{Request}
+use Rattle.org_requests.specs.declared.requests.Place.{Place}
+use Rattle.org_requests.specs.declared.requests.Place.TheVariants.{Of, Organisations, LeftOut, NoRoute, NoMethod, NoMemory}
+use Rattle.org_requests.specs.declared.requests.Request.{Request}
 use Rattle.org_core.specs.Outcomes.{Decided, shows, tells, unless, outcome_of}
-use Rattle.org_core.specs.Requests.{org_at, org_of}
+use Rattle.org_requests.specs.Requests.{org_at, org_of}
 use Rattle.org_core.specs.FullStates.{FullState, none}
-use Rattle.route_table.specs.declared.verbs.Verb.{Verb}
-use Rattle.route_table.specs.declared.verbs.Verb.TheVariants.{Get, Post, Put, Delete, Other}
+use Rattle.org_requests.specs.declared.verbs.Verb.{Verb}
+use Rattle.org_requests.specs.declared.verbs.Verb.TheVariants.{Get, Post, Put, Delete, Other}
 use Rattle.org_machine.proofs.PreparedLemmas.{step_is_served}
 use Rattle.org_machine.specs.Alone.{States, lists, steps, is_listing, IsDue, IsAnsweredBy}
-use Rattle.org_machine.specs.Heads.{head_refusal}
+use Rattle.org_requests.specs.Heads.{head_refusal}
 use Rattle.org_machine.specs.Marks.{Mark, mark_of, served}
 use Rattle.org_machine.specs.Serving.{IsOrShort}
 use Rattle.org_machine.specs.Steps.{at_organisations, at_place, context, step}
@@ -27,6 +27,7 @@ at_place_same (Of org route) request none one other = cc
 at_place_same Organisations request none one other = refl
 at_place_same LeftOut request none one other = refl
 at_place_same NoRoute request none one other = refl
+at_place_same (NoMethod org) request none one other = refl
 at_place_same NoMemory request none one other = refl
 
 -- the step of a request of no organisation is the same in every state
@@ -49,6 +50,7 @@ at_place_still (Of org route) request none state = cc
 at_place_still Organisations request none state = organisations_still request.caller request.verb request.body
 at_place_still LeftOut request none state = refl
 at_place_still NoRoute request none state = refl
+at_place_still (NoMethod org) request none state = refl
 at_place_still NoMemory request none state = refl
 
 -- and it changes none

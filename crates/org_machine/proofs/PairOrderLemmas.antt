@@ -1,27 +1,18 @@
 -- Pairs that are put in their order, each once.
-use Rattle.std.proofs.Common.{◌≡◌, ◌||◌, Bool, true, false, cond, ℕ, List, [], ◌∷◌, map, length, Option, None, Some, is_some, refl, sym, ap, ap₂, ◌∙◌, arith}
-use Rattle.std.specs.declared.cmp.Ordering.{Ordering}
-use Rattle.std.specs.declared.cmp.Ordering.TheVariants.{Less, Equal, Greater}
-use Rattle.std.specs.Ordering.{is_eq, nat_cmp, ordering_then}
-use Rattle.std.specs.Cmp.Lexicographic.{slice_cmp, texts_ties, same_text}
+use Rattle.std.proofs.Common.{◌≡◌, ◌||◌, Bool, true, false, cond, List, [], ◌∷◌, map, length, Option, None, Some, is_some, refl, sym, ap, ◌∙◌, arith}
+use Rattle.std.specs.declared.cmp.Ordering.TheVariants.{Less, Equal}
+use Rattle.std.specs.Ordering.{is_eq}
 use Rattle.std.specs.FinMap as finite
 use Rattle.std.specs.FinMap.Entries.{put, by_order}
 use Rattle.std.specs.List.{AllByRecursion}
 use Rattle.std.specs.List.Sorted.{IsStrictlySortedBy}
-use Rattle.search_query.specs.Pair.{IsRising, Pair, lists, pair, pair_cmp, pair_cmp_total, same_pair}
+use Rattle.search_query.proofs.PairLemmas.{pair_same}
+use Rattle.search_query.specs.Pair.{IsRising, Pair, lists, pair_cmp, pair_cmp_total, same_pair}
 use Rattle.org_machine.specs.Finding.{as_keys, in_order}
 
 -- pairs that tie are one
-texts_same : (xs ys : List ℕ) → is_eq (slice_cmp nat_cmp xs ys) ≡ true → xs ≡ ys
-texts_same xs ys is = same_text xs ys (sym (texts_ties xs ys ∙ is))
-
-ties_on : (o : Ordering) (x y : Pair) → slice_cmp nat_cmp x.field y.field ≡ o → is_eq (ordering_then o (slice_cmp nat_cmp x.value y.value)) ≡ true → x ≡ y
-ties_on Less x y first is = cc
-ties_on Equal x y first is = ap₂ pair (texts_same x.field y.field (ap is_eq first)) (texts_same x.value y.value is)
-ties_on Greater x y first is = cc
-
 pair_ties : (x y : Pair) → pair_cmp x y ≡ Equal → x ≡ y
-pair_ties x y is = ties_on (slice_cmp nat_cmp x.field y.field) x y refl (ap is_eq is)
+pair_ties x y is = pair_same x y (ap is_eq is)
 
 -- a pair as a key
 abbrev marked : Pair → Pair × Unit {0}

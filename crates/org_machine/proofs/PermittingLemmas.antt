@@ -1,56 +1,45 @@
 -- A step is answered 403 exactly where its request is forbidden.
 use Rattle.std.proofs.Common.{◌≡◌, ◌↔◌, inl, inr, Bool, true, false, cond, not, ◌&&◌, ℕ, zero, suc, List, [], ◌∷◌, map, Any, nat_eq, IfSome, Option, Some, None, is_some, Result, Ok, Err, refl, sym, ap, subst, ◌∙◌, arith}
 use Rattle.std.proofs.lemmas.Option.{same_Some}
+use Rattle.membership.specs.Members.{Membership}
 use Rattle.access_lists.specs.declared.acl.Acl.{Acl}
 use Rattle.access_lists.specs.declared.perm.Perm.{Perm}
 use Rattle.access_lists.specs.declared.perm.Perm.TheVariants as permission
 use Rattle.access_lists.specs.Acls.{entry_of}
-use Rattle.access_lists.specs.Members.{Membership}
 use Rattle.access_lists.specs.Permitted.{Permitted}
 use Rattle.access_lists.proofs.PermittedLemmas.{permission_decided}
 use Rattle.doc_tree.specs.Doc.{Doc, dict, no_pairs}
-use Rattle.route_table.specs.declared.verbs.Verb.{Verb}
-use Rattle.route_table.specs.declared.verbs.Verb.TheVariants.{Get, Post, Put, Delete, Other}
+use Rattle.org_requests.specs.declared.verbs.Verb.{Verb}
+use Rattle.org_requests.specs.declared.verbs.Verb.TheVariants.{Get, Post, Put, Delete, Other}
 use Rattle.org_core.specs.declared.needs.Need.{Need}
 use Rattle.org_core.specs.declared.needs.Need.TheVariants.{Operator, Listed}
-use Rattle.org_core.specs.declared.refusals.Refusal.{Refusal}
-use Rattle.org_core.specs.declared.refusals.Refusal.TheVariants.{TooLarge, VersionNotTaken, NotImplemented, NotFound, NotAllowed, UnknownCaller, NotJson, TooDeep, NotWhole, BadField, Forbidden, AlreadyExists, MissingChecksums, DigestDiffers, SandboxesAtEnd, BadParameter, BadQuery, Frozen, RevisionDiffers, MissingArtifact, Unsolvable}
-use Rattle.org_core.specs.declared.replies.Reply.{Reply}
-use Rattle.org_core.specs.declared.requests.Body.{Body}
-use Rattle.org_core.specs.declared.requests.Place.{Place}
-use Rattle.org_core.specs.declared.requests.Place.TheVariants.{Of, Organisations, LeftOut, NoRoute, NoMemory}
-use Rattle.org_core.specs.declared.requests.Request.{Request}
-use Rattle.org_core.specs.declared.routes.Route.{Route}
-use Rattle.org_core.specs.declared.routes.Route.TheVariants.{Organisation, Objects, Data, Access, Cookbooks, Policies, Search}
+use Rattle.org_requests.specs.declared.refusals.Refusal.{Refusal}
+use Rattle.org_requests.specs.declared.refusals.Refusal.TheVariants.{TooLarge, VersionNotTaken, NotImplemented, NotFound, NotAllowed, UnknownCaller, Forbidden}
+use Rattle.org_requests.specs.declared.replies.Reply.{Reply}
+use Rattle.org_requests.specs.declared.requests.Body.{Body}
+use Rattle.org_requests.specs.declared.requests.Place.{Place}
+use Rattle.org_requests.specs.declared.requests.Place.TheVariants.{Of, Organisations, LeftOut, NoRoute, NoMethod, NoMemory}
+use Rattle.org_requests.specs.declared.requests.Request.{Request}
+use Rattle.org_requests.specs.Routes.{Route}
 use Rattle.org_core.specs.Contexts.{Context}
 use Rattle.org_core.proofs.PlainLemmas.{document_plain, refuses_plain}
-use Rattle.org_core.specs.Bodies.{document_in, is_too_long}
+use Rattle.org_requests.specs.Documents.{document_in, is_too_long}
 use Rattle.org_core.specs.Needs.{permission_of, is_known, grants, is_granted, first_lacking, lacking}
-use Rattle.org_core.specs.Outcomes.{Told, shows, makes, gives, Done, Decided, tells, unless, reply_of, outcome_of}
+use Rattle.org_core.specs.Outcomes.{Success, shows, makes, gives, Done, Decided, tells, unless, reply_of, outcome_of}
 use Rattle.org_core.specs.Plain.{IsPlain, RefusesPlainly, NeverForbids}
-use Rattle.org_core.specs.Refusals.{refuses, first_some, reply_to}
-use Rattle.org_core.specs.Requests.{is_operator}
+use Rattle.org_requests.specs.Refusals.{refuses, first_some, reply_to}
+use Rattle.org_requests.specs.Requests.{is_operator}
 use Rattle.org_core.specs.Rules.{Rules}
 use Rattle.org_core.specs.FullStates.{FullState}
 use Rattle.org_core.specs.States.{list_in, membership_of}
-use Rattle.policy_routes.proofs.PlainLemmas.{policies_never_forbid}
-use Rattle.policy_routes.specs.PolicyRules.{policy_rules}
-use Rattle.search_routes.proofs.PlainLemmas.{searches_never_forbid}
-use Rattle.search_routes.specs.SearchRules.{search_rules}
 use Rattle.org_machine.specs.Permitting.{IsListed, IsPermitted, LacksOne, IsForbiddenBy, IsForbiddenAt, IsForbiddenIn, IsForbidden}
-use Rattle.access_routes.proofs.PlainLemmas.{access_never_forbids}
-use Rattle.access_routes.specs.AccessRules.{access_rules}
-use Rattle.cookbook_routes.proofs.PlainLemmas.{cookbooks_never_forbid}
-use Rattle.cookbook_routes.specs.CookbookRules.{cookbook_rules}
-use Rattle.object_routes.proofs.PlainLemmas.{organisations_never_forbid, objects_never_forbid, data_never_forbid}
-use Rattle.object_routes.specs.DataBags.{data_rules}
-use Rattle.object_routes.specs.Objects.{objects_rules}
-use Rattle.object_routes.specs.Organisations.{organisation_rules}
+use Rattle.org_machine.proofs.Groups.{all_lawful, at_route_is, forbidden_is}
 use Rattle.org_machine.specs.Alone.{Exchange, RunsAlone, asked_in, replies_alone}
-use Rattle.org_machine.specs.Heads.{head_refusal, is_left_out, is_no_route, is_taken, lacks_method}
+use Rattle.org_requests.specs.Heads.{head_refusal, is_left_out, is_no_route, is_taken, is_no_method}
 use Rattle.org_machine.specs.Marks.{mark_of, after, answer}
 use Rattle.org_machine.specs.Order.{absence_refusal, done_by, permitted, found, operated, by_operation, answered_by}
 use Rattle.org_machine.specs.Permitting.{IsForbiddenListing, IsPermittedExactly, ArePermittedExactly}
+use Rattle.org_machine.specs.Placing.{placed}
 use Rattle.org_machine.specs.Steps.{at_route, asks_for_organisation, context, unnamed, listed, at_organisations, at_place, step}
 
 -- a decision is answered 403
@@ -65,29 +54,9 @@ true_is_not is = cc
 
 -- only a missing permission is
 plain_is_not : (refusal : Refusal) → IsPlain refusal → (reply_to refusal).status ≡ 403 → ⊥
-plain_is_not TooLarge plain is = not_403 413 refl is
-plain_is_not VersionNotTaken plain is = not_403 406 refl is
-plain_is_not NotImplemented plain is = not_403 501 refl is
-plain_is_not NotFound plain is = not_403 404 refl is
-plain_is_not NotAllowed plain is = not_403 405 refl is
-plain_is_not UnknownCaller plain is = not_403 401 refl is
-plain_is_not NotJson plain is = not_403 400 refl is
-plain_is_not TooDeep plain is = not_403 400 refl is
-plain_is_not NotWhole plain is = not_403 400 refl is
-plain_is_not (BadField field) plain is = not_403 400 refl is
-plain_is_not AlreadyExists plain is = not_403 409 refl is
-plain_is_not (MissingChecksums sums) plain is = not_403 400 refl is
-plain_is_not (DigestDiffers found asked) plain is = not_403 400 refl is
-plain_is_not SandboxesAtEnd plain is = not_403 409 refl is
-plain_is_not (BadParameter name) plain is = not_403 400 refl is
-plain_is_not (BadQuery place) plain is = not_403 400 refl is
-plain_is_not Frozen plain is = not_403 409 refl is
-plain_is_not RevisionDiffers plain is = not_403 409 refl is
-plain_is_not (MissingArtifact cookbook identifier) plain is = not_403 400 refl is
-plain_is_not (Unsolvable no_cookbook no_version) plain is = not_403 412 refl is
-plain_is_not (Forbidden permission) plain is = plain
+plain_is_not refusal plain is = subst (λ (status : ℕ). cond (nat_eq status 403) ⊥ (Unit {0})) is plain
 
-told_is_not : (told : Told) → (reply_of told).status ≡ 403 → ⊥
+told_is_not : (told : Success) → (reply_of told).status ≡ 403 → ⊥
 told_is_not (shows doc) is = not_403 200 refl is
 told_is_not (makes doc) is = not_403 201 refl is
 told_is_not (gives bytes) is = not_403 200 refl is
@@ -221,15 +190,16 @@ module _ {Route Operation : Type 0} where
       → Is403 (answered_by rules context route request) ↔ IsForbiddenBy rules context route request
   answered_403 rules never context route request = by_403 rules never context (rules.operation context route request) (never.operation context route request)
 
--- one line a group
+-- by the law of the route's group
 at_route_403 : (context : Context) (route : Route) (request : Request) → Is403 (at_route context route request) ↔ IsForbiddenAt context route request
-at_route_403 context (Organisation route) request = answered_403 organisation_rules organisations_never_forbid context route request
-at_route_403 context (Objects collection route) request = answered_403 (objects_rules collection) (objects_never_forbid collection) context route request
-at_route_403 context (Data route) request = answered_403 data_rules data_never_forbid context route request
-at_route_403 context (Access route) request = answered_403 access_rules access_never_forbids context route request
-at_route_403 context (Cookbooks route) request = answered_403 cookbook_rules cookbooks_never_forbid context route request
-at_route_403 context (Policies route) request = answered_403 policy_rules policies_never_forbid context route request
-at_route_403 context (Search route) request = answered_403 search_rules searches_never_forbid context route request
+at_route_403 context route request =
+    let its = placed route in
+    let exact = answered_403 its.rules (all_lawful route).never_forbids context its.route request in
+    let decided = at_route_is context route request in
+    let forbidden = forbidden_is context route request in (
+      (λ is. subst (λ (T : Type 0). T) (sym forbidden) (exact.0 (subst Is403 decided is))),
+      (λ is. subst Is403 (sym decided) (exact.1 (subst (λ (T : Type 0). T) forbidden is))),
+    )
 
 -- ---- what stands before
 
@@ -243,17 +213,21 @@ absence_plain asks context =
     two_plain (refuses NotFound (asks && not (is_some context.state))) (refuses UnknownCaller (asks && not (is_known context)))
     (refuses_plain NotFound (asks && not (is_some context.state)) tt) (refuses_plain UnknownCaller (asks && not (is_known context)) tt)
 
-first_plain : (one : Option Refusal) (rest : List (Option Refusal)) → IfSome one IsPlain → IfSome (first_some rest) IsPlain → IfSome (first_some (one ∷ rest)) IsPlain
-first_plain (Some one) rest plain _ = plain
-first_plain None rest _ plain = plain
+refuses_first : (refusal : Refusal) (b : Bool) (rest : List (Option Refusal)) → IsPlain refusal → IfSome (first_some rest) IsPlain → IfSome (first_some (refuses refusal b ∷ rest)) IsPlain
+refuses_first refusal true rest plain _ = plain
+refuses_first refusal false rest _ plain = plain
 
 head_plain : (request : Request) → IfSome (head_refusal request) IsPlain
 head_plain request =
-    first_plain _ _ (refuses_plain TooLarge (is_too_long request.body) tt)
-    (first_plain _ _ (refuses_plain VersionNotTaken (not (is_taken request.api)) tt)
-    (first_plain _ _ (refuses_plain NotImplemented (is_left_out request.place) tt)
-    (first_plain _ _ (refuses_plain NotFound (is_no_route request.place) tt)
-    (first_plain _ _ (refuses_plain NotAllowed (lacks_method request.place request.verb) tt) tt))))
+    let method : List (Option Refusal) = refuses NotAllowed (is_no_method request.place) ∷ [] in
+    let route : List (Option Refusal) = refuses NotFound (is_no_route request.place) ∷ method in
+    let path : List (Option Refusal) = refuses NotImplemented (is_left_out request.place) ∷ route in
+    let version : List (Option Refusal) = refuses VersionNotTaken (not (is_taken request.api)) ∷ path in
+    refuses_first TooLarge (is_too_long request.body) version tt
+    (refuses_first VersionNotTaken (not (is_taken request.api)) path tt
+    (refuses_first NotImplemented (is_left_out request.place) route tt
+    (refuses_first NotFound (is_no_route request.place) method tt
+    (refuses_first NotAllowed (is_no_method request.place) [] tt tt))))
 
 -- ---- at a place
 
@@ -284,6 +258,7 @@ at_place_403 (Of org route) request state =
 at_place_403 Organisations request state = organisations_403 request.caller request.verb request.body
 at_place_403 LeftOut request state = ((λ is. not_403 501 refl is), (λ none. absurd none))
 at_place_403 NoRoute request state = ((λ is. not_403 404 refl is), (λ none. absurd none))
+at_place_403 (NoMethod org) request state = ((λ is. not_403 405 refl is), (λ none. absurd none))
 at_place_403 NoMemory request state = ((λ is. not_403 501 refl is), (λ none. absurd none))
 
 -- a step is answered 403 exactly where its request is forbidden

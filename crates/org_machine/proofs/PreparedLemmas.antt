@@ -1,15 +1,15 @@
 -- A request that was prepared as the step says, or refused for want of memory, is answered as its mark says.
 use Rattle.std.proofs.Common.{◌≡◌, ◌+◌, ◌⊎◌, ℕ, List, [], Result, Ok, Err, inl, inr, refl, sym, ap, subst, ◌∙◌, arith}
-use Rattle.org_core.specs.declared.groups.Prepared.{Prepared}
+use Rattle.org_core.specs.declared.rules.Prepared.{Prepared}
 use Rattle.org_core.specs.declared.moves.Move.{Move}
-use Rattle.org_core.specs.declared.refusals.Refusal.{Refusal}
-use Rattle.org_core.specs.declared.refusals.Refusal.TheVariants.{TooLarge, VersionNotTaken, NotImplemented, NotFound, NotAllowed, UnknownCaller, NotJson, TooDeep, NotWhole, BadField, Forbidden, AlreadyExists, MissingChecksums, DigestDiffers, SandboxesAtEnd, BadParameter, BadQuery, Frozen, RevisionDiffers, MissingArtifact, Unsolvable}
-use Rattle.org_core.specs.declared.requests.Request.{Request}
+use Rattle.org_requests.specs.declared.refusals.Refusal.{Refusal}
+use Rattle.org_requests.specs.declared.refusals.Refusal.TheVariants.{TooLarge}
+use Rattle.org_requests.specs.declared.requests.Request.{Request}
 use Rattle.org_core.specs.FileMoves.{after_all}
 use Rattle.org_core.specs.Rooms.{HasRoom}
-use Rattle.org_core.specs.Outcomes.{Told, shows, makes, gives, Done, Decided, Finds, all_looks, reply_of, outcome_of, LooksAtMost}
-use Rattle.org_core.specs.Refusals.{reply_to, out_of_memory}
-use Rattle.access_lists.specs.Rooms as groups
+use Rattle.org_core.specs.Outcomes.{Success, shows, makes, gives, Done, Decided, IsAsDecided, all_looks, reply_of, outcome_of, LooksAtMost}
+use Rattle.org_requests.specs.Refusals.{reply_to, out_of_memory}
+use Rattle.membership.specs.Rooms as groups
 use Rattle.object_store.specs.Objects.{Store}
 use Rattle.org_core.specs.FullStates.{FullState}
 use Rattle.org_core.specs.States.{Kept}
@@ -20,7 +20,7 @@ use Rattle.org_machine.specs.declared.serving.Ready.{Ready}
 use Rattle.org_machine.specs.Steps.{decided, step, looks}
 
 -- what is told of an operation is served
-told_is_served : (told : Told) → mark_of (reply_of told) ≡ served
+told_is_served : (told : Success) → mark_of (reply_of told) ≡ served
 told_is_served (shows doc) = refl
 told_is_served (makes doc) = refl
 told_is_served (gives bytes) = refl
@@ -28,26 +28,7 @@ told_is_served (gives bytes) = refl
 -- and so is the reply to a refusal
 refusal_is_served : (refusal : Refusal) → mark_of (reply_to refusal) ≡ served
 refusal_is_served TooLarge = refl
-refusal_is_served VersionNotTaken = refl
-refusal_is_served NotImplemented = refl
-refusal_is_served NotFound = refl
-refusal_is_served NotAllowed = refl
-refusal_is_served UnknownCaller = refl
-refusal_is_served NotJson = refl
-refusal_is_served TooDeep = refl
-refusal_is_served NotWhole = refl
-refusal_is_served (BadField field) = refl
-refusal_is_served (Forbidden permission) = refl
-refusal_is_served AlreadyExists = refl
-refusal_is_served (MissingChecksums sums) = refl
-refusal_is_served (DigestDiffers found asked) = refl
-refusal_is_served SandboxesAtEnd = refl
-refusal_is_served (BadParameter name) = refl
-refusal_is_served (BadQuery place) = refl
-refusal_is_served Frozen = refl
-refusal_is_served RevisionDiffers = refl
-refusal_is_served (MissingArtifact cookbook identifier) = refl
-refusal_is_served (Unsolvable no_cookbook no_version) = refl
+refusal_is_served _ = refl
 
 outcome_is_served : (answer : Result Done Refusal) → mark_of (outcome_of answer).reply ≡ served
 outcome_is_served (Ok done) = told_is_served done.told
@@ -58,7 +39,7 @@ pub step_is_served : (request : Request) (state : FullState) → mark_of (step r
 step_is_served request state = outcome_is_served (decided request state).answer
 
 -- what is told of an operation is 200 or 201
-told_is_good : (told : Told) → IsGood (reply_of told).status
+told_is_good : (told : Success) → IsGood (reply_of told).status
 told_is_good (shows doc) = inl refl
 told_is_good (makes doc) = inr refl
 told_is_good (gives bytes) = inl refl
@@ -90,7 +71,7 @@ exactly before now count is = (omega (arith, is), omega (arith, is))
 
 no_room_needed : (moves : List Move) (store : Store) (members : groups.Kept) (on : shelves.Kept) (spare : ℕ) → moves ≡ [] → HasRoom moves store members on spare
 no_room_needed moves store members on spare none =
-    subst (λ ms. HasRoom ms store members on spare) (sym none) (record { room = omega arith; orderly = refl; place = tt; shelved = omega arith; files = omega arith })
+    subst (λ ms. HasRoom ms store members on spare) (sym none) (record { room = omega arith; orderly = refl; joining = tt; shelved = omega arith; files = omega arith })
 
 short≢served : short ≡ served → ⊥
 short≢served same = cc
@@ -120,18 +101,18 @@ is_prepared finder_looks prepared request state kept spare before now (inr p) =
       looks = record { exact = λ is. absurd (short≢served (sym mark ∙ is)); most = p.looked };
     }
 
--- what was found has the reply and the moves that are due
-found_is_due : (prepared : Prepared) (answer : Result Done Refusal) → Finds (Ok prepared) answer
+-- what was prepared as was decided has the reply and the moves that are due
+prepared_is_due : (prepared : Prepared) (answer : Result Done Refusal) → IsAsDecided (Ok prepared) answer
     → (prepared.reply ≡ (outcome_of answer).reply) × (prepared.moves ≡ (outcome_of answer).moves)
-found_is_due prepared (Ok done) found = found
-found_is_due prepared (Err refusal) found = absurd found
+prepared_is_due prepared (Ok done) same = same
+prepared_is_due prepared (Err refusal) same = absurd same
 
--- what was found is done with room for it, or told as want of memory
-pub found_with_room : (finder_looks : ℕ → ℕ) (prepared : Prepared) (result : Ready) (due : Decided) (kept : Kept) (spare before now : ℕ)
-    → Finds (Ok prepared) due.answer → now ≡ before + all_looks finder_looks due → HasRoom result.moves kept.objects kept.groups kept.shelves spare
+-- what was prepared is done with room for it, or told as want of memory
+pub prepared_with_room : (finder_looks : ℕ → ℕ) (prepared : Prepared) (result : Ready) (due : Decided) (kept : Kept) (spare before now : ℕ)
+    → IsAsDecided (Ok prepared) due.answer → now ≡ before + all_looks finder_looks due → HasRoom result.moves kept.objects kept.groups kept.shelves spare
     → ((result.reply ≡ prepared.reply) × (result.moves ≡ prepared.moves)) ⊎ ((result.reply ≡ out_of_memory) × (result.moves ≡ [])) → Does finder_looks result due kept spare before now
-found_with_room finder_looks prepared result due kept spare before now found looked room (inl same) =
-    let is = found_is_due prepared due.answer found in
+prepared_with_room finder_looks prepared result due kept spare before now found looked room (inl same) =
+    let is = prepared_is_due prepared due.answer found in
     inl (record { reply = same.0 ∙ is.0; moves = same.1 ∙ is.1; room = room; looked = looked })
-found_with_room finder_looks prepared result due kept spare before now found looked room (inr lost) =
+prepared_with_room finder_looks prepared result due kept spare before now found looked room (inr lost) =
     inr (record { reply = lost.0; moves = lost.1; looked = exactly before now (all_looks finder_looks due) looked })

@@ -3,17 +3,17 @@
 use Rattle.std.specs.Prelude.{◌≡◌, Bool, false, cond, ◌&&◌, ℕ, List, [], ◌∷◌, ◌++◌, map, filter, Option, Some, None, is_some, is_none, bytes_eq, codes}
 use Rattle.std.specs.List.{list_any}
 use Rattle.std.specs.List.Sorted.{IsStrictlySortedBy}
-use Rattle.route_table.specs.Verbs.{is_get}
-use Rattle.org_core.specs.declared.replies.Reply.{Reply}
-use Rattle.org_core.specs.declared.requests.Request.{Request}
-use Rattle.org_core.specs.Requests.{org_of, is_of, is_operator}
-use Rattle.org_core.specs.declared.requests.Place.{Place}
-use Rattle.org_core.specs.declared.requests.Place.TheVariants.{Of, Organisations, LeftOut, NoRoute, NoMemory}
-use Rattle.org_core.specs.Replies.{shown, paths_behind}
-use Rattle.org_core.specs.Refusals.{out_of_memory}
+use Rattle.doc_tree.specs.Text.{text_cmp}
+use Rattle.org_requests.specs.Verbs.{is_get}
+use Rattle.org_requests.specs.declared.replies.Reply.{Reply}
+use Rattle.org_requests.specs.declared.requests.Request.{Request}
+use Rattle.org_requests.specs.Requests.{org_of, is_of, is_operator}
+use Rattle.org_requests.specs.declared.requests.Place.{Place}
+use Rattle.org_requests.specs.declared.requests.Place.TheVariants.{Of, Organisations, LeftOut, NoRoute, NoMethod, NoMemory}
+use Rattle.org_requests.specs.Replies.{shown, paths_behind}
+use Rattle.org_requests.specs.Refusals.{out_of_memory}
 use Rattle.org_core.specs.FullStates.{FullState, none}
-use Rattle.org_core.specs.States.{name_cmp}
-use Rattle.org_machine.specs.Heads.{head_refusal}
+use Rattle.org_requests.specs.Heads.{head_refusal}
 use Rattle.org_machine.specs.Steps.{step}
 use Rattle.org_machine.specs.Marks.{Mark, served, short, down, mark_of, answer, after, IsLawful}
 
@@ -74,6 +74,7 @@ is_listing_at (Of org route) request = false
 is_listing_at Organisations request = is_get request.verb && (is_operator request.caller && is_none (head_refusal request))
 is_listing_at LeftOut request = false
 is_listing_at NoRoute request = false
+is_listing_at (NoMethod org) request = false
 is_listing_at NoMemory request = false
 
 -- the request asks for the listing of organisations
@@ -91,7 +92,7 @@ listing names = shown (paths_behind (codes "/organizations/") names)
 -- the reply lists the organisations that are there, in the order of their names
 pub record Lists (states : States) (reply : Reply) : Type 0 where
   pub names : List (List ℕ)
-  pub sorted : IsStrictlySortedBy name_cmp names
+  pub sorted : IsStrictlySortedBy text_cmp names
   pub there : (name : List ℕ) → list_any (bytes_eq name) names ≡ is_some (states name).state
   pub told : reply ≡ listing names
 

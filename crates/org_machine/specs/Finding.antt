@@ -1,56 +1,14 @@
 -- What a finder is told of the moves that are made: which objects of which indexes come, with which pairs, and which go.
-use Rattle.std.specs.Prelude.{◌≡◌, ◌&&◌, ◌||◌, ℕ, Bool, true, false, not, cond, List, [], ◌∷◌, ◌++◌, Option, Some, None, bytes_eq, codes, map, option_map}
+use Rattle.std.specs.Prelude.{◌≡◌, ◌||◌, ℕ, Bool, true, false, List, [], ◌∷◌, ◌++◌, Option, Some, None, map, option_map}
 use Rattle.std.specs.FinMap as finite
-use Rattle.std.specs.List.{before_first, after_first}
-use Rattle.doc_tree.specs.Doc.{Doc}
-use Rattle.doc_tree.specs.declared.kind.Kind.{Kind}
-use Rattle.doc_tree.specs.declared.kind.Kind.TheVariants.{Org, Node, Role, Environment, Bag, Client, User, Group, Container, Item, Cookbook, Artifact, Policy, PolicyGroup, Acl, Sandbox, File}
 use Rattle.object_finder.specs.declared.changes.Change.{Change}
-use Rattle.object_finder.specs.Changes.{after_changes}
 use Rattle.object_finder.specs.Held.{Held}
-use Rattle.object_store.specs.Shelving.{has_slash, is_slash}
-use Rattle.object_store.specs.declared.key.Key.{Key}
+use Rattle.object_finder.specs.Indexes.{Entry, entry_of}
 use Rattle.search_query.specs.Pair.{Pair, pair_cmp}
 use Rattle.search_query.specs.Pairs.{pairs_of}
 use Rattle.org_core.specs.Moves.{opens}
 use Rattle.org_core.specs.declared.moves.Move.{Move}
 use Rattle.org_core.specs.declared.moves.Move.TheVariants.{Open, Put, TakeOut, PutList, TakeList, AddUser, RemoveUser, AddClient, RemoveClient, PutGroup, RemoveGroup, OnShelves, OnFiles}
-
--- the word of an index, and an object's name in it
-abbrev pub Entry : Type 0
-Entry = List ℕ × List ℕ
-
--- one of the four indexes has this word
-abbrev pub is_kinds : List ℕ → Bool
-is_kinds word = bytes_eq word (codes "node") || (bytes_eq word (codes "role") || (bytes_eq word (codes "environment") || bytes_eq word (codes "client")))
-
--- an item is found by its id in the index of its bag, where the bag isn't named like one of the four indexes
-abbrev pub item_entry : List ℕ → Option Entry
-item_entry name = cond (has_slash name && not (is_kinds (before_first is_slash name))) (Some (before_first is_slash name, after_first is_slash name)) None
-
--- where the object of this kind and name is found. Those of other kinds aren't
-abbrev pub entry_at : Kind → List ℕ → Option Entry
-entry_at Org name = None
-entry_at Node name = Some (codes "node", name)
-entry_at Role name = Some (codes "role", name)
-entry_at Environment name = Some (codes "environment", name)
-entry_at Bag name = None
-entry_at Client name = Some (codes "client", name)
-entry_at User name = None
-entry_at Group name = None
-entry_at Container name = None
-entry_at Item name = item_entry name
-entry_at Cookbook name = None
-entry_at Artifact name = None
-entry_at Policy name = None
-entry_at PolicyGroup name = None
-entry_at Acl name = None
-entry_at Sandbox name = None
-entry_at File name = None
-
--- and the object of a key
-abbrev pub entry_of : Key → Option Entry
-entry_of key = entry_at key.kind key.name
 
 -- a finite map that has these pairs as its keys, and nothing at each
 abbrev pub as_keys : List Pair → finite.FinMap pair_cmp (Unit {0})

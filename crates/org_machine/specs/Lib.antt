@@ -1,5 +1,5 @@
-pub mod Heads
 pub mod Order
+pub mod Placing
 pub mod Steps
 pub mod Marks
 pub mod Alone

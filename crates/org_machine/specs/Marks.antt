@@ -1,10 +1,10 @@
 -- What befell a request on its way: the mark that is read off its reply.
 use Rattle.std.specs.Prelude.{[], ℕ, List, unwrap_or, ◌==◌, if◌then◌else◌, codes}
-use Rattle.org_core.specs.declared.replies.Reply.{Reply}
-use Rattle.org_core.specs.declared.requests.Request.{Request}
-use Rattle.org_core.specs.Replies.{with_body}
-use Rattle.org_core.specs.Requests.{org_of}
-use Rattle.org_core.specs.Refusals.{out_of_memory, error_body}
+use Rattle.org_requests.specs.declared.replies.Reply.{Reply}
+use Rattle.org_requests.specs.declared.requests.Request.{Request}
+use Rattle.org_requests.specs.Replies.{with_body}
+use Rattle.org_requests.specs.Requests.{org_of}
+use Rattle.org_requests.specs.Refusals.{out_of_memory, error_body}
 use Rattle.org_core.specs.FileMoves.{after_all}
 use Rattle.org_core.specs.FullStates.{FullState}
 use Rattle.org_machine.specs.Steps.{step}

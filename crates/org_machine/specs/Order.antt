@@ -1,12 +1,12 @@
 -- The order of refusals behind the head, once for every route, over the rules of its group.
 use Rattle.std.specs.Prelude.{Bool, not, ◌&&◌, List, [], ◌∷◌, Option, Result, Ok, Err, is_some}
-use Rattle.org_core.specs.declared.refusals.Refusal.{Refusal}
-use Rattle.org_core.specs.declared.refusals.Refusal.TheVariants.{NotFound, UnknownCaller}
-use Rattle.org_core.specs.declared.requests.Request.{Request}
+use Rattle.org_requests.specs.declared.refusals.Refusal.{Refusal}
+use Rattle.org_requests.specs.declared.refusals.Refusal.TheVariants.{NotFound, UnknownCaller}
+use Rattle.org_requests.specs.declared.requests.Request.{Request}
 use Rattle.org_core.specs.Contexts.{Context}
 use Rattle.org_core.specs.Needs.{is_known, lacking}
 use Rattle.org_core.specs.Outcomes.{Decided, unless, refuse, searching}
-use Rattle.org_core.specs.Refusals.{refuses, first_some}
+use Rattle.org_requests.specs.Refusals.{refuses, first_some}
 use Rattle.org_core.specs.Rules.{Rules}
 
 -- where the organisation has to be there: 404 where it isn't, and then 401 where nobody there knows the caller

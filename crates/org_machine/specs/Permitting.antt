@@ -4,32 +4,25 @@ use Rattle.std.specs.Prelude.{◌≡◌, ◌⊎◌, ◌↔◌, ℕ, false, List,
 use Rattle.access_lists.specs.declared.acl.Acl.{Acl}
 use Rattle.access_lists.specs.Acls.{entry_of}
 use Rattle.access_lists.specs.Permitted.{Permitted}
-use Rattle.route_table.specs.declared.verbs.Verb.{Verb}
-use Rattle.route_table.specs.declared.verbs.Verb.TheVariants.{Get, Post, Put, Delete, Other}
+use Rattle.org_requests.specs.declared.verbs.Verb.{Verb}
+use Rattle.org_requests.specs.declared.verbs.Verb.TheVariants.{Get, Post, Put, Delete, Other}
 use Rattle.org_core.specs.declared.needs.Need.{Need}
 use Rattle.org_core.specs.declared.needs.Need.TheVariants.{Operator, Listed}
-use Rattle.org_core.specs.declared.replies.Reply.{Reply}
-use Rattle.org_core.specs.declared.requests.Place.{Place}
-use Rattle.org_core.specs.declared.requests.Place.TheVariants.{Of, Organisations, LeftOut, NoRoute, NoMemory}
-use Rattle.org_core.specs.declared.requests.Request.{Request}
-use Rattle.org_core.specs.declared.routes.Route.{Route}
-use Rattle.org_core.specs.declared.routes.Route.TheVariants.{Organisation, Objects, Data, Access, Cookbooks, Policies, Search}
+use Rattle.org_requests.specs.declared.replies.Reply.{Reply}
+use Rattle.org_requests.specs.declared.requests.Place.{Place}
+use Rattle.org_requests.specs.declared.requests.Place.TheVariants.{Of, Organisations, LeftOut, NoRoute, NoMethod, NoMemory}
+use Rattle.org_requests.specs.declared.requests.Request.{Request}
+use Rattle.org_requests.specs.Routes.{Route}
 use Rattle.org_core.specs.Contexts.{Context}
-use Rattle.org_core.specs.Requests.{is_operator}
+use Rattle.org_requests.specs.Requests.{is_operator}
 use Rattle.org_core.specs.Rules.{Rules}
 use Rattle.org_core.specs.FullStates.{FullState}
 use Rattle.org_core.specs.States.{list_in, membership_of}
-use Rattle.access_routes.specs.AccessRules.{access_rules}
-use Rattle.cookbook_routes.specs.CookbookRules.{cookbook_rules}
-use Rattle.object_routes.specs.DataBags.{data_rules}
-use Rattle.object_routes.specs.Objects.{objects_rules}
-use Rattle.object_routes.specs.Organisations.{organisation_rules}
-use Rattle.policy_routes.specs.PolicyRules.{policy_rules}
-use Rattle.search_routes.specs.SearchRules.{search_rules}
 use Rattle.org_machine.specs.Alone.{Exchange}
-use Rattle.org_machine.specs.Heads.{head_refusal}
+use Rattle.org_requests.specs.Heads.{head_refusal}
 use Rattle.org_machine.specs.Marks.{mark_of, served, after}
 use Rattle.org_machine.specs.Order.{absence_refusal}
+use Rattle.org_machine.specs.Placing.{by_group}
 use Rattle.org_machine.specs.Steps.{asks_for_organisation, context}
 
 -- the access list of the object of the key is there, and permits it to the caller; what only the operator may do no list
@@ -56,13 +49,7 @@ IsForbiddenBy {Route} {Operation} rules context route request =
 
 -- at a route, by the rules of its group
 abbrev pub IsForbiddenAt : Context → Route → Request → Type 0
-IsForbiddenAt context (Organisation route) request = IsForbiddenBy organisation_rules context route request
-IsForbiddenAt context (Objects collection route) request = IsForbiddenBy (objects_rules collection) context route request
-IsForbiddenAt context (Data route) request = IsForbiddenBy data_rules context route request
-IsForbiddenAt context (Access route) request = IsForbiddenBy access_rules context route request
-IsForbiddenAt context (Cookbooks route) request = IsForbiddenBy cookbook_rules context route request
-IsForbiddenAt context (Policies route) request = IsForbiddenBy policy_rules context route request
-IsForbiddenAt context (Search route) request = IsForbiddenBy search_rules context route request
+IsForbiddenAt context route request = by_group (λ GroupRoute Operation asks rules at. IsForbiddenBy rules context at request) route
 
 -- anybody but the operator may not list the organisations
 abbrev pub IsForbiddenListing : Verb → Option (List ℕ) → Type 0
@@ -79,6 +66,7 @@ IsForbiddenIn (Of org route) request state =
 IsForbiddenIn Organisations request state = IsForbiddenListing request.verb request.caller
 IsForbiddenIn LeftOut request state = ⊥
 IsForbiddenIn NoRoute request state = ⊥
+IsForbiddenIn (NoMethod org) request state = ⊥
 IsForbiddenIn NoMemory request state = ⊥
 
 -- the head refuses nothing, and the request is forbidden at its place

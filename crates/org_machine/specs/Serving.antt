@@ -1,12 +1,12 @@
 -- What serving one request does: to what is kept of its organisation, and to the states of all.
 use Rattle.std.specs.Prelude.{◌≡◌, ◌+◌, ◌⊎◌, if◌then◌else◌, ℕ, List, [], Option, Some, None}
 use Rattle.org_core.specs.declared.moves.Move.{Move}
-use Rattle.org_core.specs.declared.replies.Reply.{Reply}
-use Rattle.org_core.specs.declared.requests.Request.{Request}
-use Rattle.org_core.specs.Requests.{org_of, is_of}
+use Rattle.org_requests.specs.declared.replies.Reply.{Reply}
+use Rattle.org_requests.specs.declared.requests.Request.{Request}
+use Rattle.org_requests.specs.Requests.{org_of, is_of}
 use Rattle.org_core.specs.Rooms.{HasRoom}
 use Rattle.org_core.specs.Outcomes.{Decided, all_looks, outcome_of, LooksAtMost}
-use Rattle.org_core.specs.Refusals.{out_of_memory}
+use Rattle.org_requests.specs.Refusals.{out_of_memory}
 use Rattle.org_core.specs.FullStates.{FullState}
 use Rattle.org_core.specs.States.{Kept}
 use Rattle.org_machine.specs.declared.serving.Ready.{Ready}

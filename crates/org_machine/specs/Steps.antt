@@ -1,60 +1,34 @@
 -- One request on one organisation's state: what the head refuses, whether the organisation has to be there,
--- and then the rules of the route's group, one line a group.
-use Rattle.std.specs.Prelude.{Bool, true, false, ℕ, List, [], ◌∷◌, Option, Result, Ok, Err, codes}
+-- and then the rules of the route's group.
+use Rattle.std.specs.Prelude.{Bool, ℕ, List, [], ◌∷◌, Option, Result, Ok, Err, codes}
 use Rattle.doc_tree.specs.Doc.{Doc, dict, no_pairs}
-use Rattle.route_table.specs.declared.verbs.Verb.{Verb}
-use Rattle.route_table.specs.declared.verbs.Verb.TheVariants.{Get, Post, Put, Delete, Other}
+use Rattle.org_requests.specs.declared.verbs.Verb.{Verb}
+use Rattle.org_requests.specs.declared.verbs.Verb.TheVariants.{Get, Post, Put, Delete, Other}
 use Rattle.org_core.specs.declared.needs.Need.TheVariants.{Operator}
 use Rattle.access_lists.specs.declared.perm.Perm.TheVariants as permission
-use Rattle.org_core.specs.declared.refusals.Refusal.{Refusal}
-use Rattle.org_core.specs.declared.refusals.Refusal.TheVariants.{NotImplemented, NotFound, NotAllowed, BadField}
-use Rattle.org_core.specs.declared.requests.Body.{Body}
-use Rattle.org_core.specs.declared.requests.Place.{Place}
-use Rattle.org_core.specs.declared.requests.Place.TheVariants.{Of, Organisations, LeftOut, NoRoute, NoMemory}
-use Rattle.org_core.specs.declared.requests.Request.{Request}
-use Rattle.org_core.specs.declared.routes.OrganisationRoute.{OrganisationRoute}
-use Rattle.org_core.specs.declared.routes.OrganisationRoute.TheVariants.{Create, Whole}
-use Rattle.org_core.specs.declared.routes.Route.{Route}
-use Rattle.org_core.specs.declared.routes.Route.TheVariants.{Organisation, Objects, Data, Access, Cookbooks, Policies, Search}
-use Rattle.org_core.specs.Bodies.{document_in}
+use Rattle.org_requests.specs.declared.refusals.Refusal.{Refusal}
+use Rattle.org_requests.specs.declared.refusals.Refusal.TheVariants.{NotImplemented, NotFound, NotAllowed, BadField}
+use Rattle.org_requests.specs.declared.requests.Body.{Body}
+use Rattle.org_requests.specs.declared.requests.Place.{Place}
+use Rattle.org_requests.specs.declared.requests.Place.TheVariants.{Of, Organisations, LeftOut, NoRoute, NoMethod, NoMemory}
+use Rattle.org_requests.specs.declared.requests.Request.{Request}
+use Rattle.org_requests.specs.Routes.{Route}
+use Rattle.org_requests.specs.Documents.{document_in}
 use Rattle.org_core.specs.Contexts.{Context}
 use Rattle.org_core.specs.Needs.{lacking}
 use Rattle.org_core.specs.Outcomes.{Decided, Outcome, all_looks, shows, tells, refuse, unless, outcome_of}
 use Rattle.org_core.specs.FullStates.{FullState, none}
-use Rattle.access_routes.specs.AccessRules.{access_rules}
-use Rattle.cookbook_routes.specs.CookbookRules.{cookbook_rules}
-use Rattle.object_routes.specs.DataBags.{data_rules}
-use Rattle.object_routes.specs.Objects.{objects_rules}
-use Rattle.object_routes.specs.Organisations.{organisation_rules}
-use Rattle.policy_routes.specs.PolicyRules.{policy_rules}
-use Rattle.search_routes.specs.SearchRules.{search_rules}
-use Rattle.org_machine.specs.Heads.{head_refusal}
+use Rattle.org_requests.specs.Heads.{head_refusal}
 use Rattle.org_machine.specs.Order.{absence_refusal, answered_by}
+use Rattle.org_machine.specs.Placing.{by_group}
 
 -- a request at a route, by the rules of the route's group
 abbrev pub at_route : Context → Route → Request → Decided
-at_route context (Organisation route) request = answered_by organisation_rules context route request
-at_route context (Objects collection route) request = answered_by (objects_rules collection) context route request
-at_route context (Data route) request = answered_by data_rules context route request
-at_route context (Access route) request = answered_by access_rules context route request
-at_route context (Cookbooks route) request = answered_by cookbook_rules context route request
-at_route context (Policies route) request = answered_by policy_rules context route request
-at_route context (Search route) request = answered_by search_rules context route request
-
--- what is created needn't be there
-abbrev pub asks_for_whole : OrganisationRoute → Bool
-asks_for_whole Create = false
-asks_for_whole Whole = true
+at_route context route request = by_group (λ GroupRoute Operation asks rules at. answered_by rules context at request) route
 
 -- the route asks that its organisation is there: every one but that by which it is created
 abbrev pub asks_for_organisation : Route → Bool
-asks_for_organisation (Organisation route) = asks_for_whole route
-asks_for_organisation (Objects collection route) = true
-asks_for_organisation (Data route) = true
-asks_for_organisation (Access route) = true
-asks_for_organisation (Cookbooks route) = true
-asks_for_organisation (Policies route) = true
-asks_for_organisation (Search route) = true
+asks_for_organisation route = by_group (λ GroupRoute Operation asks rules at. asks) route
 
 -- a request at a route of an organisation
 abbrev pub within : Context → Route → Request → Decided
@@ -88,6 +62,7 @@ at_place (Of org route) request state = within (context org request.caller state
 at_place Organisations request state = at_organisations request.caller request.verb request.body
 at_place LeftOut request state = refuse NotImplemented
 at_place NoRoute request state = refuse NotFound
+at_place (NoMethod org) request state = refuse NotAllowed
 at_place NoMemory request state = refuse NotImplemented
 
 -- how a request is decided in a state

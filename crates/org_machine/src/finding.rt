@@ -1,8 +1,9 @@
 //! What a finder is told of the moves that are made: which objects of which indexes come, with which pairs, and which go.
 
-ghost use Rattle.std.specs.Prelude.{◌≡◌, ◌++◌, [], IfOk, OnOk, None, Some, is_some, option_map};
+ghost use Rattle.std.specs.Prelude.{◌≡◌, ◌++◌, IfOk, OnOk, None, Some, is_some, option_map};
 ghost use Rattle.doc_tree.specs.Tree.{doc_of};
 ghost use Rattle.object_finder.specs.Changes.{HasRoomFor};
+ghost use Rattle.object_finder.specs.Indexes.{entry_of};
 ghost use Rattle.search_query.specs.Pairs.{pairs_of};
 ghost use Rattle.org_core.specs.Moves.{opens as spec_opens};
 ghost use Rattle.org_core.specs.States.{state_in};
@@ -10,7 +11,7 @@ ghost use Rattle.org_machine.specs.Finding as spec;
 ghost use Rattle.org_machine.specs.Finding.{AreChanges};
 
 use doc_tree::{Kind, NoMemory, Text, Tree};
-use object_finder::{Change, Changes, Finder, Scope, reserve_for};
+use object_finder::{Change, Changes, Finder, Scope, entry_of, reserve_for};
 use object_store::Key;
 use org_core::{Move, OrgState};
 use search_query::{Pairs, pairs};
@@ -115,7 +116,7 @@ fn change_of(alloc: Global, org: &Text, one: &Move) -> Result<Option<Change>, No
 
 // The object of a key comes, where it is in an index.
 fn comes(alloc: Global, org: &Text, key: &Key, object: &Tree) -> Result<Option<Change>, NoMemory>
-    ensures { IfOk result (λ change. change ≡ option_map (spec.changed_at org.now (Some (spec.in_order (pairs_of key.now.kind (doc_of object.now))))) (spec.entry_of key.now)) }
+    ensures { IfOk result (λ change. change ≡ option_map (spec.changed_at org.now (Some (spec.in_order (pairs_of key.now.kind (doc_of object.now))))) (entry_of key.now)) }
 {
     match entry_of(key) {
         Some((index, name)) => {
@@ -136,7 +137,7 @@ fn pairs_in_order(alloc: Global, kind: Kind, object: &Tree) -> Result<Pairs, NoM
 
 // The object of a key goes, where it is in an index.
 fn goes(alloc: Global, org: &Text, key: &Key) -> Result<Option<Change>, NoMemory>
-    ensures { IfOk result (λ change. change ≡ option_map (spec.changed_at org.now None) (spec.entry_of key.now)) }
+    ensures { IfOk result (λ change. change ≡ option_map (spec.changed_at org.now None) (entry_of key.now)) }
 {
     match entry_of(key) {
         Some((index, name)) => Ok(Some(change_at(alloc, org, index, name, None)?)),
@@ -162,45 +163,4 @@ fn change_at(
         name: Text::from_str(alloc, name)?,
         pairs,
     })
-}
-
-// The word of the index in which the object of a key is found, and its name in it.
-fn entry_of(key: &Key) -> Option<(&str, &str)>
-    ensures { option_map (λ entry. (entry.0.now, entry.1.now)) result ≡ spec.entry_of key.now }
-{
-    match key.kind {
-        Kind::Node => Some(("node", key.name.as_str())),
-        Kind::Role => Some(("role", key.name.as_str())),
-        Kind::Environment => Some(("environment", key.name.as_str())),
-        Kind::Client => Some(("client", key.name.as_str())),
-        Kind::Item => item_entry(key.name.as_str()),
-        Kind::Org
-        | Kind::Bag
-        | Kind::User
-        | Kind::Group
-        | Kind::Container
-        | Kind::Cookbook
-        | Kind::Artifact
-        | Kind::Policy
-        | Kind::PolicyGroup
-        | Kind::Acl
-        | Kind::Sandbox
-        | Kind::File => None,
-    }
-}
-
-// Of an item the bag and the id, where the bag isn't named like one of the four indexes.
-fn item_entry(name: &str) -> Option<(&str, &str)>
-    ensures { option_map (λ entry. (entry.0.now, entry.1.now)) result ≡ spec.item_entry name.now }
-{
-    match name.split_once('/') {
-        Some((bag, id)) if !is_kinds(bag) => Some((bag, id)),
-        _ => None,
-    }
-}
-
-fn is_kinds(word: &str) -> bool
-    ensures { result ≡ spec.is_kinds word.now }
-{
-    matches!(word, "node" | "role" | "environment" | "client")
 }

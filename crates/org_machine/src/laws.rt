@@ -1,12 +1,12 @@
 //! Laws of the definitions, which need no code.
 
 ghost use Rattle.std.specs.Prelude.{◌≡◌, ◌↔◌, ℕ, List, [], None, map};
-ghost use Rattle.org_core.specs.declared.requests.Request.{Request};
+ghost use Rattle.org_requests.specs.declared.requests.Request.{Request};
 ghost use Rattle.org_machine.specs.Alone.{Alone, Exchange, RunsAlone, States, asked_in, own};
 ghost use Rattle.org_machine.specs.Marks.{mark_of, own_name, served};
 ghost use Rattle.org_core.specs.Conditions.{MeetsConditions};
 ghost use Rattle.org_core.specs.Moves.{after_moves};
-ghost use Rattle.org_core.specs.Requests.{org_of};
+ghost use Rattle.org_requests.specs.Requests.{org_of};
 ghost use Rattle.org_core.specs.FullStates.{FullState, MeetsFileConditions};
 ghost use Rattle.org_core.specs.FileMoves.{after_all};
 ghost use Rattle.org_machine.specs.Permitting.{ArePermittedExactly, IsForbidden};

@@ -3,23 +3,17 @@
 #![tactic(auto)]
 
 mod finding;
-mod heads;
 mod laws;
 mod order;
 mod outside;
 mod serving;
 mod steps;
 
-pub use heads::head_refusal;
 pub use laws::{
     alone_is_permitted_exactly, refusals_change_nothing, steps_are_served, steps_keep_conditions,
     steps_permit_exactly, the_same_in_every_state, two_worlds,
 };
 pub use object_finder::{Finder, ScanFinder};
-pub use org_core::{
-    AccessRoute, BadBody, Body, Collection, CookbookRoute, DataRoute, Move, Moves, ObjectsRoute,
-    OrgState, OrganisationRoute, Parameter, Parameters, Place, PolicyRoute, Refusal, Reply,
-    Request, Route, SearchRoute, out_of_memory,
-};
+pub use org_core::{Move, Moves, OrgState};
 pub use outside::{is_listing, listing, serve_outside};
 pub use serving::{Ready, prepare, serve, settle};

@@ -3,14 +3,13 @@
 ghost use Rattle.std.specs.Prelude.{◌≡◌, IfOk};
 ghost use Rattle.org_core.specs.Contexts.{IsExactIn, seen};
 ghost use Rattle.org_core.specs.Needs as permissions;
-ghost use Rattle.org_core.specs.Outcomes.{Finds, Looked, all_looks};
+ghost use Rattle.org_core.specs.Outcomes.{IsAsDecided, Looked, all_looks};
 ghost use Rattle.org_machine.specs.Order as spec;
 
 use doc_tree::{NoMemory, Steps};
 use object_finder::Finder;
-use org_core::{
-    Context, Group, Lent, Prepared, Refusal, Request, Stop, first_lacking, is_known, is_operator,
-};
+use org_core::{Context, Group, Lent, Prepared, first_lacking, is_known};
+use org_requests::{Refusal, Request, Stop, is_operator};
 use std::alloc::Global;
 use std::sync::ledger::Ledger;
 
@@ -39,7 +38,7 @@ pub(crate) fn answered_by<G: Group, F: Finder, L: Ledger>(
     steps: &mut Steps<L>,
 ) -> Result<Prepared, Stop>
     requires exact { IsExactIn (F.held lent.now.finder.now) (seen context) }
-    ensures done { Finds result (spec.answered_by (G.rules group.now) (seen context.entry) route.now request.now).answer }
+    ensures done { IsAsDecided result (spec.answered_by (G.rules group.now) (seen context.entry) route.now request.now).answer }
     ensures looked { Looked result (all_looks (F.looks lent.now.finder.now) (spec.answered_by (G.rules group.now) (seen context.entry) route.now request.now)) steps.old steps.new }
 {
     let operation = group.operation(alloc, context, lent, route, request)?;
@@ -56,7 +55,7 @@ fn operated<G: Group, F: Finder, L: Ledger>(
     steps: &mut Steps<L>,
 ) -> Result<Prepared, Stop>
     requires exact { IsExactIn (F.held lent.now.finder.now) (seen context) }
-    ensures done { Finds result (spec.operated (G.rules group.now) (seen context.entry) operation).answer }
+    ensures done { IsAsDecided result (spec.operated (G.rules group.now) (seen context.entry) operation).answer }
     ensures looked { Looked result (all_looks (F.looks lent.now.finder.now) (spec.operated (G.rules group.now) (seen context.entry) operation)) steps.old steps.new }
 {
     if group.lacks(alloc, context, lent, &operation)? {
@@ -75,7 +74,7 @@ fn found<G: Group, F: Finder, L: Ledger>(
     steps: &mut Steps<L>,
 ) -> Result<Prepared, Stop>
     requires exact { IsExactIn (F.held lent.now.finder.now) (seen context) }
-    ensures done { Finds result (spec.found (G.rules group.now) (seen context.entry) operation).answer }
+    ensures done { IsAsDecided result (spec.found (G.rules group.now) (seen context.entry) operation).answer }
     ensures looked { Looked result (all_looks (F.looks lent.now.finder.now) (spec.found (G.rules group.now) (seen context.entry) operation)) steps.old steps.new }
 {
     match lacking(alloc, group, context, lent, &operation)? {
@@ -111,7 +110,7 @@ fn permitted<G: Group, F: Finder, L: Ledger>(
     steps: &mut Steps<L>,
 ) -> Result<Prepared, Stop>
     requires exact { IsExactIn (F.held lent.now.finder.now) (seen context) }
-    ensures done { Finds result (spec.permitted (G.rules group.now) (seen context.entry) operation).answer }
+    ensures done { IsAsDecided result (spec.permitted (G.rules group.now) (seen context.entry) operation).answer }
     ensures looked { Looked result (all_looks (F.looks lent.now.finder.now) (spec.permitted (G.rules group.now) (seen context.entry) operation)) steps.old steps.new }
 {
     match group.own_refusal(alloc, context, lent, &operation)? {

@@ -3,23 +3,22 @@
 ghost use Rattle.std.specs.Prelude.{◌≡◌, ◌&&◌, false, IfOk, None};
 ghost use Rattle.doc_tree.specs.Valid.{InOrder};
 ghost use Rattle.org_core.specs.FullStates.{none};
-ghost use Rattle.org_core.specs.Requests.{is_operator, org_of};
+ghost use Rattle.org_requests.specs.Requests.{is_operator, org_of};
 ghost use Rattle.org_machine.specs.Alone as spec;
 ghost use Rattle.org_machine.specs.Alone.{States, OutsideAnswer};
 ghost use Rattle.org_machine.specs.Serving.{IsOrShort};
 ghost use Rattle.org_machine.specs.Steps.{at_organisations, at_place, step};
 ghost use Rattle.org_core.specs.Outcomes.{outcome_of};
-ghost use Rattle.route_table.specs.Verbs.{is_get};
+ghost use Rattle.org_requests.specs.Verbs.{is_get};
 
-use crate::heads::head_refusal;
 use crate::serving::told;
 use crate::steps::unnamed;
 use doc_tree::{NoMemory, Text};
-use org_core::{
-    Body, ORGANISATIONS, Perm, Place, Refusal, Reply, Request, is_operator, out_of_memory,
-    shown_paths,
+use org_core::Perm;
+use org_requests::{
+    Body, ORGANISATIONS, Place, Refusal, Reply, Request, Verb, head_refusal, is_operator,
+    out_of_memory, shown_paths,
 };
-use route_table::Verb;
 use std::alloc::Global;
 
 /// Whether the request asks for the listing of organisations: a GET of `/organizations` by the operator
@@ -32,7 +31,11 @@ pub fn is_listing(request: &Request) -> bool
             request.verb.is_get()
                 && (is_operator(&request.caller) && head_refusal(request).is_none())
         }
-        Place::Of { org: _, route: _ } | Place::LeftOut | Place::NoRoute | Place::NoMemory => false,
+        Place::Of { org: _, route: _ }
+        | Place::LeftOut
+        | Place::NoRoute
+        | Place::NoMethod { org: _ }
+        | Place::NoMemory => false,
     }
 }
 
@@ -80,6 +83,7 @@ fn answer_unrefused(alloc: Global, request: &Request) -> Reply
         Place::Organisations => at_organisations(alloc, request),
         Place::LeftOut | Place::NoMemory => told(alloc, Refusal::NotImplemented),
         Place::NoRoute => told(alloc, Refusal::NotFound),
+        Place::NoMethod { org: _ } => told(alloc, Refusal::NotAllowed),
     }
 }
 

@@ -10,9 +10,9 @@ ghost use Rattle.org_core.specs.FullStates.{full_in, MeetsFileConditions};
 ghost use Rattle.org_core.specs.Moves.{IsOrderly, after_moves};
 ghost use Rattle.org_core.specs.Rooms.{HasRoom};
 ghost use Rattle.sandboxes.specs.Files.{OthersStay, spare_of};
-ghost use Rattle.org_core.specs.Outcomes.{Finds, Looked, all_looks};
-ghost use Rattle.org_core.specs.Refusals as refusals;
-ghost use Rattle.org_core.specs.Requests.{org_of};
+ghost use Rattle.org_core.specs.Outcomes.{IsAsDecided, Looked, all_looks};
+ghost use Rattle.org_requests.specs.Refusals as refusals;
+ghost use Rattle.org_requests.specs.Requests.{org_of};
 ghost use Rattle.org_core.specs.States.{objects_of, state_in};
 ghost use Rattle.org_machine.specs.Finding.{AreChanges};
 ghost use Rattle.org_machine.specs.Marks.{mark_of, own_name, answer, after, IsLawful};
@@ -21,14 +21,12 @@ ghost use Rattle.org_machine.specs.Serving.{ComesWith, Does, IsGood, IsOrShort, 
 ghost use Rattle.org_machine.specs.Steps as spec;
 
 use crate::finding::changes_with_room;
-use crate::heads::head_refusal;
 use crate::steps::within;
 use dep_solver::Solved;
 use doc_tree::{NoMemory, Steps};
 use object_finder::{Changes, Finder, make_changes};
-use org_core::{
-    Context, Lent, Moves, OrgState, Place, Prepared, Refusal, Reply, Request, Stop, out_of_memory,
-};
+use org_core::{Context, Lent, Moves, OrgState, Prepared};
+use org_requests::{Place, Refusal, Reply, Request, Stop, head_refusal, out_of_memory};
 use sandboxes::Files;
 use std::alloc::Global;
 use std::sync::ledger::Ledger;
@@ -130,7 +128,7 @@ fn decided<F: Finder, L: Ledger>(
 ) -> Result<Prepared, Stop>
     requires of { org_of request.now ≡ Some state.now.name }
     requires exact { IsExact (F.held finder.now) state.now.name (objects_of (state_in state.now)) }
-    ensures done { Finds result (spec.decided request.now (full_in state.now files.now)).answer }
+    ensures done { IsAsDecided result (spec.decided request.now (full_in state.now files.now)).answer }
     ensures looked { Looked result (all_looks (F.looks finder.now) (spec.decided request.now (full_in state.now files.now))) steps.old steps.new }
 {
     match head_refusal(request) {
@@ -151,7 +149,7 @@ fn decided_within<F: Finder, L: Ledger>(
 ) -> Result<Prepared, Stop>
     requires of { org_of request.now ≡ Some state.now.name }
     requires exact { IsExact (F.held finder.now) state.now.name (objects_of (state_in state.now)) }
-    ensures done { Finds result (spec.at_place request.now.place request.now (full_in state.now files.now)).answer }
+    ensures done { IsAsDecided result (spec.at_place request.now.place request.now (full_in state.now files.now)).answer }
     ensures looked { Looked result (all_looks (F.looks finder.now) (spec.at_place request.now.place request.now (full_in state.now files.now))) steps.old steps.new }
 {
     match &request.place {
@@ -166,6 +164,7 @@ fn decided_within<F: Finder, L: Ledger>(
             let lent = Lent { finder, hint };
             within(alloc, context, &lent, route, request, steps)
         }
+        Place::NoMethod { org: _ } => Err(Stop::Refused(Refusal::NotAllowed)),
         Place::Organisations | Place::LeftOut | Place::NoRoute | Place::NoMemory => unreachable!(),
     }
 }

@@ -1,10 +1,10 @@
 //! One request on one organisation's state: whether the organisation has to be there, and then the rules
-//! of the route's group, one line a group.
+//! of the route's group, one line a group: the one place of the code that names the groups.
 
 ghost use Rattle.std.specs.Prelude.{◌≡◌, IfOk};
-ghost use Rattle.org_core.specs.Bodies as bodies;
+ghost use Rattle.org_requests.specs.Documents as bodies;
 ghost use Rattle.org_core.specs.Contexts.{IsExactIn, seen};
-ghost use Rattle.org_core.specs.Outcomes.{Finds, Looked, all_looks};
+ghost use Rattle.org_core.specs.Outcomes.{IsAsDecided, Looked, all_looks};
 ghost use Rattle.org_machine.specs.Steps as spec;
 
 use crate::order::{absence_refusal, answered_by};
@@ -13,9 +13,9 @@ use cookbook_routes::Cookbooks;
 use doc_tree::{NoMemory, Steps, Text};
 use object_finder::Finder;
 use object_routes::{DataBags, Organisations, PlainObjects};
-use org_core::{
-    Body, Context, Lent, OrganisationRoute, Prepared, Refusal, Request, Route, Stop, document_in,
-};
+use org_core::{Context, Lent, Prepared};
+use org_requests::routes::{OrganisationRoute, Route};
+use org_requests::{Body, Refusal, Request, Stop, document_in};
 use policy_routes::Policies;
 use search_routes::Searches;
 use std::alloc::Global;
@@ -31,7 +31,7 @@ pub(crate) fn within<F: Finder, L: Ledger>(
     steps: &mut Steps<L>,
 ) -> Result<Prepared, Stop>
     requires exact { IsExactIn (F.held lent.now.finder.now) (seen context) }
-    ensures done { Finds result (spec.within (seen context.entry) route.now request.now).answer }
+    ensures done { IsAsDecided result (spec.within (seen context.entry) route.now request.now).answer }
     ensures looked { Looked result (all_looks (F.looks lent.now.finder.now) (spec.within (seen context.entry) route.now request.now)) steps.old steps.new }
 {
     match absence_refusal(asks_for_organisation(route), context) {
@@ -57,7 +57,7 @@ fn at_route<F: Finder, L: Ledger>(
     steps: &mut Steps<L>,
 ) -> Result<Prepared, Stop>
     requires exact { IsExactIn (F.held lent.now.finder.now) (seen context) }
-    ensures done { Finds result (spec.at_route (seen context.entry) route.now request.now).answer }
+    ensures done { IsAsDecided result (spec.at_route (seen context.entry) route.now request.now).answer }
     ensures looked { Looked result (all_looks (F.looks lent.now.finder.now) (spec.at_route (seen context.entry) route.now request.now)) steps.old steps.new }
 {
     match route {

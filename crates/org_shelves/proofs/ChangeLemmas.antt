@@ -4,10 +4,11 @@ use Rattle.std.proofs.lemmas.Bool.{and_parts}
 use Rattle.std.proofs.lemmas.Option.{same_Some}
 use Rattle.std.specs.Cmp.{IsTotalOrder, both_ways}
 use Rattle.std.specs.Ordering.{eq_by_cmp}
-use Rattle.cookbook_editions.specs.Editions.{names_sum}
+use Rattle.doc_tree.specs.Text.{text_cmp}
+use Rattle.org_shelves.specs.Editions.{names_sum}
 use Rattle.doc_tree.specs.Doc.{Doc}
 use Rattle.shelves.proofs.ShelfLaws.{tied_name, value_at-put, value_at-without}
-use Rattle.shelves.specs.Shelves.{Store, put, text_cmp, value_at, without}
+use Rattle.shelves.specs.Shelves.{Store, put, value_at, without}
 use Rattle.org_shelves.proofs.BoolLemmas.{and_false}
 use Rattle.org_shelves.proofs.NamedLemmas.{NamedBy, named_by, who_names}
 use Rattle.org_shelves.specs.ShelfMoves.{store_names}

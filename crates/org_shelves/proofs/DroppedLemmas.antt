@@ -5,7 +5,7 @@ use Rattle.std.specs.Cmp.{Equal-is}
 use Rattle.std.specs.Cmp.Lexicographic.{bytes_decides, nat_list_cmp_total}
 use Rattle.std.specs.FinMap as finite
 use Rattle.std.specs.Ordering.{eq_by_cmp}
-use Rattle.cookbook_editions.specs.Editions.{names_sum}
+use Rattle.org_shelves.specs.Editions.{names_sum}
 use Rattle.dep_solver.proofs.VersionLemmas.{version_from_same, versions_total}
 use Rattle.dep_solver.specs.Universes.{same_version}
 use Rattle.doc_tree.specs.Doc.{Doc}

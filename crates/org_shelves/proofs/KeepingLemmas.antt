@@ -4,11 +4,12 @@ use Rattle.std.proofs.lemmas.Option.{same_Some}
 use Rattle.std.specs.Cmp.Lexicographic.{nat_list_cmp_total}
 use Rattle.std.specs.FinMap as finite
 use Rattle.std.specs.Ordering.{eq_by_cmp}
+use Rattle.doc_tree.specs.Text.{text_cmp}
 use Rattle.dep_solver.proofs.VersionLemmas.{versions_total}
 use Rattle.doc_tree.specs.Doc.{Doc}
 use Rattle.doc_tree.specs.Name.{is_name}
 use Rattle.shelves.proofs.ShelfLaws.{tied_name}
-use Rattle.shelves.specs.Shelves.{text_cmp, value_at}
+use Rattle.shelves.specs.Shelves.{value_at}
 use Rattle.shelves.specs.SortedMap.{each_value}
 use Rattle.version_rules.specs.Order.{version_cmp}
 use Rattle.org_shelves.proofs.DroppedLemmas.{tied_version}

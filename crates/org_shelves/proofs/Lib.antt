@@ -1,3 +1,9 @@
+pub mod SaysLemmas
+pub mod NeedLemmas
+pub mod FrozenLemmas
+pub mod ShowingLemmas
+pub mod UniverseLemmas
+pub mod LeftLemmas
 pub mod BoolLemmas
 pub mod EntryLemmas
 pub mod NamedLemmas

@@ -5,9 +5,10 @@ use Rattle.std.specs.Cmp.{IsTotalOrder}
 use Rattle.std.specs.Cmp.Lexicographic.{nat_list_cmp_total}
 use Rattle.std.specs.FinMap as finite
 use Rattle.std.specs.List.{list_any}
-use Rattle.cookbook_editions.specs.Editions.{names_sum}
+use Rattle.doc_tree.specs.Text.{text_cmp}
+use Rattle.org_shelves.specs.Editions.{names_sum}
 use Rattle.doc_tree.specs.Doc.{Doc}
-use Rattle.shelves.specs.Shelves.{Store, text_cmp, value_at}
+use Rattle.shelves.specs.Shelves.{Store, value_at}
 use Rattle.shelves.specs.SortedMap.{Sorted, map_of}
 use Rattle.org_shelves.proofs.EntryLemmas.{In, any_in, any_mapped, in_any}
 use Rattle.org_shelves.specs.ShelfMoves.{shelf_names, store_names}

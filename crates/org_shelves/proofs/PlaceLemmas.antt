@@ -6,10 +6,11 @@ use Rattle.std.specs.Cmp.{IsTotalOrder}
 use Rattle.std.specs.Cmp.Lexicographic.{nat_list_cmp_total}
 use Rattle.std.specs.FinMap as finite
 use Rattle.std.specs.Ordering.{eq_by_cmp}
+use Rattle.doc_tree.specs.Text.{text_cmp}
 use Rattle.shelves.proofs.MapLemmas.{get_of}
 use Rattle.shelves.proofs.ShelfLaws.{tied_name, value_at-put, value_at-without}
 use Rattle.shelves.proofs.ValueLemmas.{find_seen, order_seen}
-use Rattle.shelves.specs.Shelves.{Store, put, text_cmp, value_at, without}
+use Rattle.shelves.specs.Shelves.{Store, put, value_at, without}
 use Rattle.shelves.specs.SortedMap.{each_value}
 use Rattle.org_shelves.proofs.ChangeLemmas.{is_at, put_others, take_others}
 

@@ -6,14 +6,13 @@ use Rattle.std.specs.Cmp.Lexicographic.{nat_list_cmp_total}
 use Rattle.std.specs.FinMap as finite
 use Rattle.std.specs.Ordering.{eq_by_cmp}
 use Rattle.std.specs.declared.cmp.Ordering.{Ordering}
-use Rattle.cookbook_editions.specs.Editions.{names_sum}
+use Rattle.doc_tree.specs.Text.{text_cmp as shelves_cmp, text_cmp}
+use Rattle.org_shelves.specs.Editions.{names_sum}
 use Rattle.dep_solver.proofs.VersionLemmas.{versions_total}
 use Rattle.doc_tree.specs.Doc.{Doc}
-use Rattle.sandboxes.specs.Checksums.{text_cmp}
 use Rattle.sandboxes.specs.Sandboxes.{Holding}
 use Rattle.shelves.proofs.ShelfLaws.{tied_name, value_at-put, value_at-without}
 use Rattle.shelves.specs.Shelves.{Store, put, value_at, without}
-use Rattle.shelves.specs.Shelves.{text_cmp as shelves_cmp}
 use Rattle.version_rules.specs.Order.{version_cmp}
 use Rattle.org_shelves.proofs.BoolLemmas.{either}
 use Rattle.org_shelves.proofs.ChangeLemmas.{is_at, put_others, take_others}

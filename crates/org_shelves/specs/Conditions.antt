@@ -1,7 +1,7 @@
 -- The conditions that what every organisation keeps on shelves meets.
 use Rattle.std.specs.Prelude.{◌≡◌, true, IsTrue, ℕ, List, Some, option_and_then, Option, is_some, Ok}
 use Rattle.std.specs.FinMap as finite
-use Rattle.cookbook_editions.specs.Kept.{IsStored, IsStoredArtifact}
+use Rattle.org_shelves.specs.StoredManifests.{IsStored, IsStoredArtifact}
 use Rattle.doc_tree.specs.Doc.{Doc}
 use Rattle.doc_tree.specs.Name.{is_name}
 use Rattle.doc_tree.specs.Tree.{doc_of}

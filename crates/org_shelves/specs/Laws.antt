@@ -1,16 +1,54 @@
--- What a move on the shelves keeps.
-use Rattle.std.specs.Prelude.{◌≡◌, true, IsTrue, is_some, ℕ, List, Some}
+-- What holds of every stored manifest, and what a move on the shelves keeps.
+use Rattle.std.specs.Prelude.{◌≡◌, true, IsTrue, is_some, ℕ, List, Ok, Some}
 use Rattle.std.specs.FinMap as finite
-use Rattle.cookbook_editions.specs.Editions.{names_sum}
+use Rattle.cookbook_meta.specs.Artifacts.{artifact_from}
+use Rattle.cookbook_meta.specs.Manifests.{manifest_from}
+use Rattle.cookbook_meta.specs.declared.manifests.Manifest.{Manifest}
+use Rattle.doc_tree.specs.Doc.{Doc}
 use Rattle.doc_tree.specs.Name.{is_name}
+use Rattle.doc_tree.specs.Tree.{doc_of}
 use Rattle.sandboxes.specs.Sandboxes.{Holding}
 use Rattle.shelves.specs.Shelves.{value_at}
+use Rattle.version_rules.specs.Laws.{FitsVersion}
+use Rattle.version_rules.specs.declared.versions.Version.{Version}
 use Rattle.org_shelves.specs.Conditions.{IsArtifactOf, IsRevisionOf, IsVersionOf, ShelfConditions}
+use Rattle.org_shelves.specs.Editions.{is_frozen, names_sum}
 use Rattle.org_shelves.specs.Files.{AreThere, is_committed}
+use Rattle.org_shelves.specs.Frozen.{freeze}
 use Rattle.org_shelves.specs.Shelved.{Assigned, Policies, Shelved}
 use Rattle.org_shelves.specs.ShelfMoves.{after_shelf_move, files_after_shelf_move}
+use Rattle.org_shelves.specs.StoredManifests.{IsKept, IsStored, IsStoredArtifact, Says}
 use Rattle.org_shelves.specs.declared.shelf_moves.ShelfMove.{ShelfMove}
 use Rattle.org_shelves.specs.declared.shelf_moves.ShelfMove.TheVariants.{PutVersion, TakeVersion, PutArtifact, TakeArtifact, PutRevision, TakePolicy, PutGroup, TakeGroup}
+
+-- ---- stored manifests
+
+-- a manifest that a body gives is kept
+abbrev pub ManifestsAreKept : Type 0
+ManifestsAreKept = (name : List ℕ) (version : Version) (body : Doc) (m : Manifest) → FitsVersion version → manifest_from name version body ≡ Ok m → IsKept m
+
+-- and what is stored of it is of that name and version
+abbrev pub ManifestsAreStored : Type 0
+ManifestsAreStored = (name : List ℕ) (version : Version) (body : Doc) (m : Manifest) → FitsVersion version → manifest_from name version body ≡ Ok m → IsStored name version (doc_of m.whole)
+
+-- what is stored of an artifact that a body gives is of that name and identifier
+abbrev pub ArtifactsAreStored : Type 0
+ArtifactsAreStored = (name id : List ℕ) (body : Doc) (m : Manifest) → FitsVersion m.version → artifact_from name id body ≡ Ok m → IsStoredArtifact name id (doc_of m.whole)
+
+-- what is stored of a manifest says what the manifest does
+abbrev pub StoredManifestsSay : Type 0
+StoredManifestsSay = (m : Manifest) → IsKept m → Says (doc_of m.whole) m
+
+-- a stored manifest that is frozen is one of the same name and version, and says that it is frozen
+pub record StaysStored (name : List ℕ) (version : Version) (doc : Doc) : Type 0 where
+  pub stored : IsStored name version (freeze doc)
+  pub frozen : is_frozen (freeze doc) ≡ true
+
+-- what is stored of a manifest stays so once it is frozen
+abbrev pub FrozenAreStored : Type 0
+FrozenAreStored = (name : List ℕ) (version : Version) (doc : Doc) → IsStored name version doc → StaysStored name version doc
+
+-- ---- moves
 
 -- each revision that is assigned is there
 abbrev pub AreRevisions : Assigned → Policies → Type 0

@@ -1,3 +1,9 @@
+pub mod Editions
+pub mod Frozen
+pub mod Showing
+pub mod StoredManifests
+pub mod Rising
+pub mod Universes
 pub mod Shelved
 pub mod ShelfMoves
 pub mod Conditions

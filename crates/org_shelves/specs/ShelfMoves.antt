@@ -3,7 +3,7 @@ use Rattle.std.specs.Prelude.{Bool, true, false, not, ◌&&◌, ◌||◌, ℕ, L
 use Rattle.std.specs.FinMap as finite
 use Rattle.std.specs.List.{list_any}
 use Rattle.std.specs.declared.cmp.Ordering.{Ordering}
-use Rattle.cookbook_editions.specs.Editions.{names_sum}
+use Rattle.org_shelves.specs.Editions.{names_sum}
 use Rattle.doc_tree.specs.Doc.{Doc}
 use Rattle.sandboxes.specs.Sandboxes.{Holding}
 use Rattle.sandboxes.specs.Sums.{Sums}

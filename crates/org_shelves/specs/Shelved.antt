@@ -2,9 +2,10 @@
 use Rattle.std.specs.Prelude.{ℕ, List, refl}
 use Rattle.std.specs.Coded.{Coded, code_by, coded_list, coded_ℕ, coded×}
 use Rattle.std.specs.FinMap as finite
+use Rattle.doc_tree.specs.Text.{text_cmp}
 use Rattle.doc_tree.specs.Doc.{Doc}
 use Rattle.doc_tree.specs.DocCode.{doc_code}
-use Rattle.shelves.specs.Shelves.{Store, store_code, text_cmp}
+use Rattle.shelves.specs.Shelves.{Store, store_code}
 use Rattle.version_rules.specs.Order.{version_cmp}
 use Rattle.version_rules.specs.declared.versions.Version.{Version}
 

@@ -1,5 +1,4 @@
 //! The policies that a group assigns.
-ghost use Rattle.shelves.specs.Shelves.{text_cmp};
 ghost use Rattle.std.specs.FinMap as finite;
 ghost use Rattle.std.specs.Prelude.{◌≡◌, IfOk, option_copied};
 
@@ -22,7 +21,7 @@ impl Model for Assignments {
 
     ghost coded = { assigned_code };
 
-    ghost use Rattle.shelves.specs.Shelves.{text_cmp};
+    ghost use Rattle.doc_tree.specs.Text.{text_cmp};
     ghost use Rattle.shelves.specs.SortedMap.{map_of};
 
     ghost view = { λ a. map_of text_cmp a.revisions };

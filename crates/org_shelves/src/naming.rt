@@ -4,8 +4,8 @@ ghost use Rattle.shelves.specs.SortedMap.{map_of};
 ghost use Rattle.std.specs.List.{list_any};
 ghost use Rattle.std.specs.Prelude.{◌≡◌};
 
+use crate::editions::Edition;
 use crate::org_shelves::OrgShelves;
-use cookbook_editions::Edition;
 use doc_tree::Text;
 use sandboxes::Checksum;
 use shelves::SortedMap;

@@ -1,15 +1,16 @@
 //! What an organisation keeps on shelves, with room kept ahead.
 ghost use Rattle.org_shelves.specs.Shelved.{nothing, with_artifacts, with_cookbooks, with_groups, with_policies};
 ghost use Rattle.org_shelves.specs.ShelfMoves.{unassigned};
-ghost use Rattle.shelves.specs.Shelves.{put, shelves_of, text_cmp, value_at, without};
+ghost use Rattle.shelves.specs.Shelves.{put, shelves_of, value_at, without};
 ghost use Rattle.shelves.specs.SortedMap.{each_value, map_of};
 ghost use Rattle.std.specs.FinMap as finite;
 ghost use Rattle.std.specs.Prelude.{◌≡◌, ◌+◌, ◌≤◌, IfOk, OnOk};
+ghost use Rattle.doc_tree.specs.Text.{text_cmp};
 ghost use Rattle.version_rules.specs.Order.{version_cmp};
 
 use crate::assignments::Assignments;
+use crate::editions::Edition;
 use crate::revision::Revision;
-use cookbook_editions::Edition;
 use doc_tree::{NoMemory, Text};
 use shelves::{Shelves, SortedMap};
 use std::alloc::Global;
@@ -46,10 +47,11 @@ impl Model for OrgShelves {
 
     ghost coded = { kept_code };
 
-    ghost use Rattle.shelves.specs.Shelves.{shelves_of, text_cmp};
+    ghost use Rattle.shelves.specs.Shelves.{shelves_of};
     ghost use Rattle.shelves.specs.SortedMap.{map_of};
     ghost use Rattle.version_rules.specs.Order.{version_cmp};
     ghost use Rattle.std.specs.Prelude.{◌≤◌};
+    ghost use Rattle.doc_tree.specs.Text.{text_cmp};
 
     ghost view = { λ s. record {
       shelved = record {

@@ -5,10 +5,10 @@ ghost use Rattle.sandboxes.specs.Sandboxes.{released};
 ghost use Rattle.std.specs.Prelude.{◌≡◌, ◌+◌, ◌≤◌, cond};
 
 use crate::assignments::Assignments;
+use crate::editions::Edition;
 use crate::naming::is_named;
 use crate::org_shelves::OrgShelves;
 use crate::revision::Revision;
-use cookbook_editions::Edition;
 use doc_tree::Text;
 use sandboxes::{Files, Sums};
 use version_rules::Version;

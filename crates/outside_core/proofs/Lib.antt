@@ -1,2 +1,5 @@
 pub mod FailedLemmas
 pub mod SinkLemmas
+pub mod EntriesLemmas
+pub mod FrontLemmas
+pub mod ListingLemmas

@@ -4,3 +4,7 @@ pub mod Sink
 pub mod Buffered
 pub mod MemorySource
 pub mod MemorySink
+pub mod Disk
+pub mod SystemErrors
+pub mod Listing
+pub mod MemoryDisk

@@ -1,6 +1,6 @@
 //! Which calls of something in memory fail, and the count of those that did.
 
-ghost use Rattle.std.specs.Prelude.{◌≡◌, ◌≤◌, is_err};
+ghost use Rattle.std.specs.Prelude.{◌≡◌, ◌≤◌, OnOk, is_err};
 ghost use Rattle.outside_core.specs.Failed.{HasCause, Rose};
 ghost use Rattle.outside_core.specs.Failures.{planned, is_due, after_call, after_fault};
 
@@ -8,8 +8,10 @@ use crate::Failed;
 use std::marker::Model;
 
 /// Which calls of something in memory fail, how many calls there were, and how often one failed.
+///
+/// Whatever tries faults in memory holds one: a source, a sink, a disk, a host.
 #[derive(Drop)]
-pub(crate) struct Failures {
+pub struct Failures {
     failing: Vec<u64>,
     calls: u64,
     faults: u64,
@@ -24,8 +26,8 @@ impl Model for Failures {
 }
 
 impl Failures {
-    // The calls with these numbers are to fail. The first call is number 1.
-    pub(crate) fn planned(failing: Vec<u64>) -> Self
+    /// The calls with these numbers are to fail. The first call is number 1.
+    pub fn planned(failing: Vec<u64>) -> Self
         ensures { result ≡ planned failing.items }
     {
         Failures {
@@ -35,11 +37,12 @@ impl Failures {
         }
     }
 
-    // Counts one call, and its fault where it is to fail.
-    pub(crate) fn call(&mut self) -> Result<(), Failed>
+    /// Counts one call, and its fault where it is to fail.
+    pub fn call(&mut self) -> Result<(), Failed>
         ensures due { is_err result ≡ is_due self.old }
         ensures counted { self.new ≡ after_call self.old }
         ensures cause { HasCause self.old.faults self.new.faults result }
+        ensures unfailed { OnOk result (self.new.faults ≡ self.old.faults) }
     {
         self.calls = self.calls.saturating_add(1);
         if self.failing.contains(&self.calls) {
@@ -49,8 +52,8 @@ impl Failures {
         Ok(())
     }
 
-    // Counts a fault of a call that was not to fail.
-    pub(crate) fn fault(&mut self)
+    /// Counts a fault of a call that was not to fail.
+    pub fn fault(&mut self)
         ensures counted { self.new ≡ after_fault self.old }
         ensures later { self.old.faults ≤ self.new.faults }
         ensures rose { Rose self.old.faults self.new.faults }

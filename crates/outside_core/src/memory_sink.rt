@@ -1,6 +1,6 @@
 //! The sink in memory.
 
-ghost use Rattle.std.specs.Prelude.{◌≡◌, ◌+◌, ◌≤◌, ◌<◌, ◌++◌, [], Some, IfOk, OnOk, OnErr, is_err, length};
+ghost use Rattle.std.specs.Prelude.{◌≡◌, ◌+◌, ◌≤◌, ◌++◌, [], Some, IfOk, OnOk, OnErr, is_err, length};
 ghost use Rattle.outside_core.specs.Failed.{HasCause};
 ghost use Rattle.outside_core.specs.Failures.{planned};
 ghost use Rattle.outside_core.specs.MemorySink.{after_write, refuses_write};

@@ -1,4 +1,4 @@
-mod EachLemmas
+mod FieldLemmas
 mod HexLemmas
 mod LineLemmas
 pub mod LockLemmas

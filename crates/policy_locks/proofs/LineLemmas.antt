@@ -4,10 +4,10 @@ use Rattle.std.proofs.lemmas.Grind.{flat_map-append}
 use Rattle.std.proofs.lemmas.List.{map_push, take_more}
 use Rattle.std.specs.List.{flat_map}
 use Rattle.doc_tree.specs.Doc.{Doc}
-use Rattle.run_list.specs.Stored.{Stored}
+use Rattle.run_lists.specs.Stored.{Stored}
 use Rattle.policy_locks.specs.Digests.{cookbook_line, dict_text, item_lines, lines_by, named_lines}
 use Rattle.policy_locks.specs.declared.lock.CookbookLock.{CookbookLock}
-use Rattle.policy_locks.specs.declared.lock.NamedRunList.{NamedRunList}
+use Rattle.run_lists.specs.declared.by_name.NamedRunList.{NamedRunList}
 
 append_none : {A : Type 0} (zs : List A) → zs ++ [] ≡ zs
 append_none [] = refl

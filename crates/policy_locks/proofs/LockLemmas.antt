@@ -1,106 +1,54 @@
 -- A lock is read again from what is stored of it.
-use Rattle.std.proofs.Common.{◌≡◌, ℕ, true, List, [], ◌∷◌, map, Option, None, Some, IfOk, option_and_then, option_map, Result, Ok, Err, ok_or, codes, refl, sym, ap, subst, ◌∙◌}
+use Rattle.std.proofs.Common.{◌≡◌, ℕ, true, List, [], map, Option, None, Some, IfOk, option_and_then, Result, Ok, Err, ok_or, codes, refl, sym, ap, subst, ◌∙◌}
 use Rattle.std.specs.Map.{keys_of}
-use Rattle.doc_tree.proofs.Docs.{docs_list-docs_of, pairs_list-pairs_of, pairs_of-pairs_list}
-use Rattle.doc_tree.specs.Doc.{Doc, null, boolean, whole, words, list, dict, docs_list, Pairs, pairs_of, pairs_list}
+use Rattle.doc_tree.specs.Text.{text_of}
+use Rattle.doc_tree.proofs.Docs.{pairs_list-pairs_of, pairs_of-pairs_list}
+use Rattle.doc_tree.specs.Doc.{Doc, null, boolean, whole, words, list, dict, Pairs, pairs_of, pairs_list}
 use Rattle.doc_tree.specs.Name.{is_name}
 use Rattle.doc_tree.specs.Part.{pair_at}
 use Rattle.doc_tree.specs.Tree.{doc_of}
 use Rattle.doc_tree.specs.Valid.{ArePairs, InOrder, IsDoc}
 use Rattle.doc_tree.specs.declared.tree.Tree.TheVariants as tree
-use Rattle.run_list.specs.Items.{reads_item, stored_text}
-use Rattle.run_list.specs.Laws.{StoredReadsBack}
-use Rattle.run_list.specs.Stored.{Stored}
-use Rattle.run_list.specs.declared.fault.ItemFault.{ItemFault}
-use Rattle.run_list.specs.declared.names.Named.{Named}
+use Rattle.run_lists.specs.ByName.{dict_of, kept_if, named_run_lists}
+use Rattle.run_lists.specs.Laws.{NamedListsReadBack, RunListReadsBack}
+use Rattle.run_lists.specs.Reading.{run_list_of}
+use Rattle.run_lists.specs.Stored.{Stored}
+use Rattle.run_lists.specs.Storing.{named_pair, run_list_doc}
+use Rattle.run_lists.specs.declared.by_name.NamedRunList.{NamedRunList}
+use Rattle.run_lists.specs.declared.reading.Allowed.TheVariants.{Items}
+use Rattle.run_lists.proofs.EachLemmas.{kept_found, same_some, then_found}
+use Rattle.run_lists.proofs.OrderLemmas.{keys_of-named, lists_in_order}
 use Rattle.cookbook_meta.specs.Faults.{then_do}
 use Rattle.cookbook_meta.specs.Stored.{beside, with_pairs}
 use Rattle.cookbook_meta.proofs.DoneLemmas.{same_ok, then_done}
 use Rattle.cookbook_meta.proofs.PutLemmas.{at_other, at_own, beside-puts, beside-twice}
-use Rattle.policy_locks.specs.Parts.{cookbook_locks, dict_of, kept_if, may, must, name_of, named_run_list, named_run_lists, read_or, text_of}
-use Rattle.run_list_roots.specs.Reading.{each_of, item_named, item_of, run_list_of}
+use Rattle.policy_locks.specs.Parts.{cookbook_locks, may, must, name_of, read_or}
 use Rattle.policy_locks.specs.Outcomes.{Gives}
 use Rattle.policy_locks.specs.Reading.{IsInOrder, lock_from, lock_in, policy_name}
 use Rattle.policy_locks.specs.declared.fault.LockFault.{LockFault}
-use Rattle.policy_locks.specs.Stored.{is_settled, named_doc, named_pair, run_list_doc, settled_fields, whole_of}
+use Rattle.policy_locks.specs.Stored.{is_settled, named_doc, settled_fields, whole_of}
 use Rattle.policy_locks.specs.declared.lock.CookbookLock.{CookbookLock}
 use Rattle.policy_locks.specs.declared.lock.Lock.{Lock}
-use Rattle.policy_locks.specs.declared.lock.NamedRunList.{NamedRunList}
-use Rattle.policy_locks.specs.declared.parts.Allowed.TheVariants.{Items}
-use Rattle.policy_locks.proofs.EachLemmas.{each_again, each_told, keeps_again, kept_found, map_found, must_done, same_some, then_found}
-use Rattle.policy_locks.proofs.OrderLemmas.{cookbooks_order, dict_order, keys_of-pairs, lists_order, named_told}
+use Rattle.policy_locks.proofs.FieldLemmas.{must_done}
+use Rattle.policy_locks.proofs.OrderLemmas.{cookbooks_order, lists_order}
 use Rattle.policy_locks.proofs.PutLemmas.{known_at, pair_at-beside, put_in_order}
 
 -- ---- run lists
 
--- what stored texts of items read as
-abbrev pub ItemsReadBack : Type 0
-ItemsReadBack = (text : List ℕ) → StoredReadsBack text
+-- what stored run lists read as
+abbrev pub RunListsLaw : Type 0
+RunListsLaw = (d : Doc) (items : List Stored) → RunListReadsBack d items
 
-abbrev item_words : Stored → Doc
-item_words item = words item.text
+-- what stored run lists under their names read as
+abbrev pub NamedListsLaw : Type 0
+NamedListsLaw = (d : Doc) (lists : List NamedRunList) → NamedListsReadBack d lists
 
-item_by : ItemsReadBack → (text : List ℕ) (r : Result Named ItemFault) (item : Stored) → reads_item text ≡ r → item_named text r ≡ Some item → item_of (item_words item) ≡ Some item
-item_by law text (Ok named) item reads is =
-    let same : record { text = stored_text text; named = named } ≡ item = same_some (record { text = stored_text text; named = named }) item is in
-    subst (λ (i : Stored). item_of (item_words i) ≡ Some i) same
-    (ap (item_named (stored_text text)) ((law text).named ∙ reads) ∙ ap (λ t. Some (record { text = t; named = named })) (law text).stored)
-item_by law text (Err fault) item reads is = cc
-
-item_again : ItemsReadBack → (d : Doc) (item : Stored) → item_of d ≡ Some item → item_of (item_words item) ≡ Some item
-item_again law null item is = cc
-item_again law (boolean b) item is = cc
-item_again law (whole z) item is = cc
-item_again law (words text) item is = item_by law text (reads_item text) item refl is
-item_again law (list ds) item is = cc
-item_again law (dict ps) item is = cc
-
-run_list_again : ItemsReadBack → (d : Doc) (items : List Stored) → run_list_of d ≡ Some items → run_list_of (run_list_doc items) ≡ Some items
-run_list_again law null items is = cc
-run_list_again law (boolean b) items is = cc
-run_list_again law (whole z) items is = cc
-run_list_again law (words text) items is = cc
-run_list_again law (list ds) items is =
-    ap (each_of item_of) (docs_list-docs_of (map item_words items)) ∙ each_again item_of item_of item_words (item_again law) (docs_list ds) items is
-run_list_again law (dict ps) items is = cc
-
--- ---- run lists under their names
-
--- the name and the items of a run list that was read
-record IsNamed (pair : List ℕ × Doc) (named : NamedRunList) : Type 0 where
-  items : List Stored
-  is_its_name : is_name pair.0 ≡ true
-  items_are : run_list_of pair.1 ≡ Some items
-  all : record { name = pair.0; run_list = items } ≡ named
-
-named_is : (pair : List ℕ × Doc) (named : NamedRunList) → named_run_list Items pair ≡ Some named → IsNamed pair named
-named_is pair named is =
-    let name = then_found (kept_if is_name pair.0) (λ name. option_map (λ items. record { name = name; run_list = items }) (run_list_of pair.1)) named is in
-    let items = map_found (run_list_of pair.1) (λ items. record { name = name.0; run_list = items }) named name.2 in
-    let kept = kept_found is_name pair.0 name.0 name.1 in
-    record { items = items.0; is_its_name = kept.0; items_are = items.1; all = ap (λ n. record { name = n; run_list = items.0 }) kept.1 ∙ items.2 }
-
-named_again : ItemsReadBack → (pair : List ℕ × Doc) (named : NamedRunList) → named_run_list Items pair ≡ Some named → named_run_list Items (named_pair named) ≡ Some named
-named_again law pair named is =
-    let read = named_is pair named is in
-    subst (λ (n : NamedRunList). named_run_list Items (named_pair n) ≡ Some n) read.all
-    (ap (option_and_then (λ name. option_map (λ items. record { name = name; run_list = items }) (run_list_of (run_list_doc read.items)))) (keeps_again is_name pair.0 read.is_its_name)
-    ∙ ap (option_map (λ items. record { name = pair.0; run_list = items })) (run_list_again law pair.1 read.items read.items_are))
-
-keys_of-map : (lists : List NamedRunList) → keys_of (map named_pair lists) ≡ map (λ (n : NamedRunList). n.name) lists
-keys_of-map [] = refl
-keys_of-map (n ∷ lists) = ap (λ (ks : List (List ℕ)). n.name ∷ ks) (keys_of-map lists)
-
-lists_again : ItemsReadBack → (d : Doc) (lists : List NamedRunList) → IsDoc d → named_run_lists Items d ≡ Some lists → named_run_lists Items (named_doc lists) ≡ Some lists
+lists_again : NamedListsLaw → (d : Doc) (lists : List NamedRunList) → IsDoc d → named_run_lists Items d ≡ Some lists → named_run_lists Items (named_doc lists) ≡ Some lists
 lists_again law d lists known is =
-    let read = then_found (dict_of d) (each_of (named_run_list Items)) lists is in
-    let keys : keys_of (map named_pair lists) ≡ keys_of read.0 =
-    keys_of-map lists ∙ each_told (named_run_list Items) (λ (p : List ℕ × Doc). p.0) (λ (n : NamedRunList). n.name) (named_told Items) read.0 lists read.2 ∙ keys_of-pairs read.0 in
-    let order : InOrder (keys_of (map named_pair lists)) = subst InOrder (sym keys) (dict_order d read.0 known read.1) in
-    ap (each_of (named_run_list Items)) (pairs_list-pairs_of (with_pairs (map named_pair lists) []) ∙ put_in_order (map named_pair lists) order)
-    ∙ each_again (named_run_list Items) (named_run_list Items) named_pair (named_again law) read.0 lists read.2
+    let order : InOrder (keys_of (map named_pair lists)) = subst InOrder (sym (keys_of-named lists)) (lists_in_order Items d lists known is) in
+    ap (λ (ps : List (List ℕ × Doc)). named_run_lists Items (dict (pairs_of ps))) (put_in_order (map named_pair lists) order) ∙ law d lists is
 
-lists_found : ItemsReadBack → (found : Option Doc) (lists : List NamedRunList) → ((d : Doc) → found ≡ Some d → IsDoc d) → read_or [] (named_run_lists Items) found ≡ Some lists → named_run_lists Items (named_doc lists) ≡ Some lists
+lists_found : NamedListsLaw → (found : Option Doc) (lists : List NamedRunList) → ((d : Doc) → found ≡ Some d → IsDoc d) → read_or [] (named_run_lists Items) found ≡ Some lists → named_run_lists Items (named_doc lists) ≡ Some lists
 lists_found law None lists known is = ap (λ ls. named_run_lists Items (named_doc ls)) (sym (same_some [] lists is)) ∙ is
 lists_found law (Some d) lists known is = lists_again law d lists (known d refl) is
 
@@ -297,12 +245,12 @@ module _ (policy : Option (List ℕ)) (body : Pairs) (revision name : List ℕ) 
       let h = dict_found (codes "solution_dependencies") solution refl in
       λ i. by_steps (a i) (b i) (c i) (d i) (e i) (f i) (g i) (h i) (made_of (pairs_of stored))
 
-lock_in_again : ItemsReadBack → (policy : Option (List ℕ)) (body : Pairs) (lock : Lock) → ArePairs body → lock_in policy body ≡ Ok lock → lock_from policy (doc_of lock.whole) ≡ Ok lock
-lock_in_again law policy body lock known is =
+lock_in_again : RunListsLaw → NamedListsLaw → (policy : Option (List ℕ)) (body : Pairs) (lock : Lock) → ArePairs body → lock_in policy body ≡ Ok lock → lock_from policy (doc_of lock.whole) ≡ Ok lock
+lock_in_again one named policy body lock known is =
     let read = read_done policy body lock is in
     let sent = then_found (pair_at (codes "run_list") body) run_list_of read.run_list (must_done (option_and_then run_list_of (pair_at (codes "run_list") body)) (codes "run_list") read.run_list read.run_list_is) in
-    let run_list = run_list_again law sent.0 read.run_list sent.2 in
-    let lists = lists_found law (pair_at (codes "named_run_lists") body) read.lists (λ d there. known_at (codes "named_run_lists") body d known there)
+    let run_list = one sent.0 read.run_list sent.2 in
+    let lists = lists_found named (pair_at (codes "named_run_lists") body) read.lists (λ d there. known_at (codes "named_run_lists") body d known there)
     (must_done (read_or [] (named_run_lists Items) (pair_at (codes "named_run_lists") body)) (codes "named_run_lists") read.lists read.lists_are) in
     let again = all_again policy body read.revision read.name read.run_list read.lists read.cookbooks read.default read.over read.solution read.revision_is read.name_is read.cookbooks_are run_list lists in
     let settled = whole_again policy body read.revision read.name read.run_list read.lists read.cookbooks read.default read.over read.solution in
@@ -319,13 +267,13 @@ lock_in_again law policy body lock known is =
       whole = tree.Dict w;
     })) settled)
 
-pub locks_again : ItemsReadBack → (policy : Option (List ℕ)) (body : Doc) (lock : Lock) → IsDoc body → lock_from policy body ≡ Ok lock → lock_from policy (doc_of lock.whole) ≡ Ok lock
-locks_again law policy null lock known is = cc
-locks_again law policy (boolean b) lock known is = cc
-locks_again law policy (whole z) lock known is = cc
-locks_again law policy (words text) lock known is = cc
-locks_again law policy (list ds) lock known is = cc
-locks_again law policy (dict body) lock known is = lock_in_again law policy body lock known.0 is
+pub locks_again : RunListsLaw → NamedListsLaw → (policy : Option (List ℕ)) (body : Doc) (lock : Lock) → IsDoc body → lock_from policy body ≡ Ok lock → lock_from policy (doc_of lock.whole) ≡ Ok lock
+locks_again one named policy null lock known is = cc
+locks_again one named policy (boolean b) lock known is = cc
+locks_again one named policy (whole z) lock known is = cc
+locks_again one named policy (words text) lock known is = cc
+locks_again one named policy (list ds) lock known is = cc
+locks_again one named policy (dict body) lock known is = lock_in_again one named policy body lock known.0 is
 
 -- ---- the revision
 

@@ -3,9 +3,9 @@ use Rattle.std.proofs.Common.{◌≡◌, ◌<◌, ◌+◌, ℕ, Bool, cond, List
 use Rattle.std.proofs.lemmas.List.{drop_more}
 use Rattle.std.specs.List.{find}
 use Rattle.std.specs.List.Sorted.{IsStrictlySortedBy}
+use Rattle.doc_tree.specs.Text.{text_cmp}
 use Rattle.doc_tree.specs.Doc.{Doc}
 use Rattle.dep_solver.specs.Best.{IsBest}
-use Rattle.dep_solver.specs.Names.{name_cmp}
 use Rattle.dep_solver.specs.Solutions.{choice_of}
 use Rattle.dep_solver.specs.declared.roots.Pin.{Pin}
 use Rattle.dep_solver.specs.declared.roots.Roots.{Roots}
@@ -16,7 +16,7 @@ use Rattle.doc_tree.specs.declared.tree.Tree.{Tree}
 use Rattle.cookbook_meta.specs.Stored.{with_pairs}
 use Rattle.policy_locks.specs.Digests.{digest_text}
 use Rattle.policy_locks.specs.Making.{AreBest, AreRootsOf, IsMadeWith, is_unidentified, locked, source_fields, source_lines}
-use Rattle.run_list_roots.specs.Reading.{each_of}
+use Rattle.run_lists.specs.Reading.{each_of}
 use Rattle.policy_locks.specs.declared.identifiers.Identified.{Identified}
 use Rattle.policy_locks.specs.declared.lock.CookbookLock.{CookbookLock}
 use Rattle.policy_locks.specs.declared.lock.Lock.{Lock}
@@ -29,7 +29,7 @@ Dict = List (List ℕ × Doc)
 
 -- the best solution of copies is that of what was copied
 pub best_of : (source : PolicySource) (universe own : Universe) (rules : EnvRules) (roots kept : Roots) (chosen : List Pin) → own ≡ universe → rules ≡ source.cookbooks → kept ≡ roots → AreRootsOf source roots
-    → ∥ IsBest own rules kept (choice_of chosen) ∥₁ → IsStrictlySortedBy name_cmp (map (λ (pin : Pin). pin.name) chosen) → AreBest source universe chosen
+    → ∥ IsBest own rules kept (choice_of chosen) ∥₁ → IsStrictlySortedBy text_cmp (map (λ (pin : Pin). pin.name) chosen) → AreBest source universe chosen
 best_of source universe own rules roots kept chosen same_universe same_rules same_roots of_source best order =
     let first = subst (λ (u : Universe). ∥ IsBest u rules kept (choice_of chosen) ∥₁) same_universe best in
     let second = subst (λ (r : EnvRules). ∥ IsBest universe r kept (choice_of chosen) ∥₁) same_rules first in

@@ -1,29 +1,23 @@
 -- What was read of a Dict that is known stands in the order of its keys.
-use Rattle.std.proofs.Common.{◌≡◌, ℕ, List, [], ◌∷◌, map, Option, None, Some, option_and_then, option_map, codes, refl, sym, ap, subst, ◌∙◌}
+use Rattle.std.proofs.Common.{◌≡◌, ℕ, List, [], map, Option, None, Some, option_and_then, option_map, codes, refl, sym, ap, subst, ◌∙◌}
 use Rattle.std.specs.List.Sorted.{IsStrictlySortedBy}
-use Rattle.std.specs.Map.{keys_of}
-use Rattle.doc_tree.specs.Doc.{Doc, null, boolean, whole, words, list, dict, Pairs, pairs_of, pairs_list}
+use Rattle.doc_tree.specs.Doc.{Doc, Pairs, pairs_of}
 use Rattle.doc_tree.specs.Name.{is_name}
+use Rattle.doc_tree.specs.Part.{pair_at}
 use Rattle.doc_tree.specs.Valid.{InOrder, IsDoc}
-use Rattle.run_list.specs.Stored.{Stored}
 use Rattle.version_rules.specs.Terms.{Terms}
 use Rattle.version_rules.specs.declared.needs.Need.{Need}
 use Rattle.version_rules.specs.declared.versions.Version.{Version}
-use Rattle.run_list_roots.specs.Reading.{each_of}
-use Rattle.policy_locks.specs.Parts.{constraint_of, cookbook_lock, cookbook_locks, dict_of, items_read, kept_if, locked_at, identifier_of, named_run_list, named_run_lists, need_of, needs_of, read_or, version_of}
+use Rattle.run_lists.specs.ByName.{dict_of, kept_if, named_run_list, named_run_lists}
+use Rattle.run_lists.specs.Reading.{each_of}
+use Rattle.run_lists.specs.declared.by_name.NamedRunList.{NamedRunList}
+use Rattle.run_lists.specs.declared.reading.Allowed.{Allowed}
+use Rattle.run_lists.proofs.EachLemmas.{kept_found, map_found, same_some, then_found}
+use Rattle.run_lists.proofs.OrderLemmas.{named_told, order_of}
+use Rattle.policy_locks.specs.Parts.{constraint_of, cookbook_lock, cookbook_locks, locked_at, identifier_of, need_of, needs_of, read_or, version_of}
 use Rattle.policy_locks.specs.declared.lock.CookbookLock.{CookbookLock}
-use Rattle.policy_locks.specs.declared.lock.NamedRunList.{NamedRunList}
-use Rattle.policy_locks.specs.declared.parts.Allowed.{Allowed}
-use Rattle.policy_locks.proofs.EachLemmas.{each_told, kept_found, map_found, same_some, then_found}
-use Rattle.doc_tree.specs.Part.{pair_at}
 
 -- ---- each is named by its key
-
-pub named_told : (allowed : Allowed) (pair : List ℕ × Doc) (named : NamedRunList) → named_run_list allowed pair ≡ Some named → named.name ≡ pair.0
-named_told allowed pair named is =
-    let name = then_found (kept_if is_name pair.0) (λ name. option_map (λ (items : List Stored). record { name = name; run_list = items }) (items_read allowed pair.1)) named is in
-    let items = map_found (items_read allowed pair.1) (λ (items : List Stored). record { name = name.0; run_list = items }) named name.2 in
-    ap (λ (n : NamedRunList). n.name) (sym items.2) ∙ sym (kept_found is_name pair.0 name.0 name.1).1
 
 locked_told : (name : List ℕ) (ps : Pairs) (lock : CookbookLock) → locked_at name ps ≡ Some lock → lock.name ≡ name
 locked_told name ps lock is =
@@ -48,26 +42,6 @@ need_told pair need is =
 none_in_order : InOrder []
 unfolding IsStrictlySortedBy
 none_in_order = tt
-
--- the keys of a Dict that is known are in order
-pub dict_order : (d : Doc) (ps : List (List ℕ × Doc)) → IsDoc d → dict_of d ≡ Some ps → InOrder (keys_of ps)
-dict_order null ps known is = cc
-dict_order (boolean b) ps known is = cc
-dict_order (whole z) ps known is = cc
-dict_order (words text) ps known is = cc
-dict_order (list ds) ps known is = cc
-dict_order (dict qs) ps known is = subst (λ (rs : List (List ℕ × Doc)). InOrder (keys_of rs)) (same_some (pairs_list qs) ps is) known.1
-
-pub keys_of-pairs : (ps : List (List ℕ × Doc)) → map (λ (p : List ℕ × Doc). p.0) ps ≡ keys_of ps
-keys_of-pairs [] = refl
-keys_of-pairs (p ∷ ps) = ap (λ (ks : List (List ℕ)). p.0 ∷ ks) (keys_of-pairs ps)
-
--- what is made of each pair of a Dict is in order by its names
-pub order_of : {A : Type 0} (make : List ℕ × Doc → Option A) (name : A → List ℕ) → ((pair : List ℕ × Doc) (x : A) → make pair ≡ Some x → name x ≡ pair.0) → (d : Doc) (xs : List A) → IsDoc d → option_and_then (each_of make) (dict_of d) ≡ Some xs
-    → InOrder (map name xs)
-order_of make name told d xs known is =
-    let read = then_found (dict_of d) (each_of make) xs is in
-    subst InOrder (sym (each_told make (λ (p : List ℕ × Doc). p.0) name told read.0 xs read.2 ∙ keys_of-pairs read.0)) (dict_order d read.0 known read.1)
 
 pub order_found : {A : Type 0} (make : List ℕ × Doc → Option A) (name : A → List ℕ) → ((pair : List ℕ × Doc) (x : A) → make pair ≡ Some x → name x ≡ pair.0) → (found : Option Doc) (xs : List A) → ((d : Doc) → found ≡ Some d → IsDoc d)
     → read_or [] (λ d. option_and_then (each_of make) (dict_of d)) found ≡ Some xs → InOrder (map name xs)

@@ -12,7 +12,7 @@ use Rattle.doc_tree.specs.Part.{pair_at, with_pair}
 use Rattle.doc_tree.specs.Valid.{ArePairs, InOrder, IsDoc}
 use Rattle.cookbook_meta.specs.Stored.{beside, with_pairs}
 use Rattle.cookbook_meta.proofs.KeyLemmas.{InOrder-first}
-use Rattle.policy_locks.proofs.EachLemmas.{same_some}
+use Rattle.run_lists.proofs.EachLemmas.{same_some}
 
 -- the last of all keys goes behind the others
 above : (key : List ℕ) (d : Doc) (p : List ℕ × Doc) (ps after : List (List ℕ × Doc)) → slice_cmp nat_cmp key p.0 ≡ Greater → match_ordering (slice_cmp nat_cmp key p.0) ((key, d) ∷ p ∷ ps) ((p.0, d) ∷ ps) (p ∷ after) ≡ p ∷ after

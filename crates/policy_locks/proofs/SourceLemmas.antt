@@ -3,19 +3,18 @@ use Rattle.std.proofs.Common.{◌≡◌, ℕ, List, [], IfOk, Result, Ok, Err, c
 use Rattle.doc_tree.specs.Doc.{Doc, dict, Pairs}
 use Rattle.doc_tree.specs.Part.{pair_at}
 use Rattle.doc_tree.specs.Valid.{ArePairs, IsDoc}
-use Rattle.run_list.specs.Stored.{Stored}
+use Rattle.run_lists.specs.Stored.{Stored}
 use Rattle.version_rules.specs.declared.needs.Need.{Need}
 use Rattle.cookbook_meta.specs.Faults.{then_do}
 use Rattle.cookbook_meta.proofs.DoneLemmas.{same_ok, then_done}
 use Rattle.policy_locks.specs.Outcomes.{Gives}
-use Rattle.policy_locks.specs.Parts.{dict_of, may, must, name_of, named_run_lists, needs_of, read_or}
-use Rattle.run_list_roots.specs.Reading.{recipes_of}
+use Rattle.policy_locks.specs.Parts.{dict_of, may, must, name_of, named_run_lists, needs_of, read_or, recipes_of}
 use Rattle.policy_locks.specs.Sources.{IsInOrder, source_in}
 use Rattle.policy_locks.specs.declared.fault.LockFault.{LockFault}
-use Rattle.policy_locks.specs.declared.lock.NamedRunList.{NamedRunList}
-use Rattle.policy_locks.specs.declared.parts.Allowed.TheVariants.{Recipes}
+use Rattle.run_lists.specs.declared.by_name.NamedRunList.{NamedRunList}
+use Rattle.run_lists.specs.declared.reading.Allowed.TheVariants.{Recipes}
 use Rattle.policy_locks.specs.declared.source.PolicySource.{PolicySource}
-use Rattle.policy_locks.proofs.EachLemmas.{must_done}
+use Rattle.policy_locks.proofs.FieldLemmas.{must_done}
 use Rattle.policy_locks.proofs.OrderLemmas.{lists_order, needs_order}
 use Rattle.policy_locks.proofs.PutLemmas.{known_at}
 

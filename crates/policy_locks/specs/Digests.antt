@@ -5,11 +5,11 @@ use Rattle.hex.specs.Hex.{encode_lower}
 use Rattle.sha2.specs.Sha256.{sha256}
 use Rattle.doc_tree.specs.Doc.{Doc, dict, pairs_of}
 use Rattle.doc_tree.specs.Written.{text}
-use Rattle.run_list.specs.Stored.{Stored}
+use Rattle.run_lists.specs.Stored.{Stored}
 use Rattle.cookbook_meta.specs.Identifiers.{text_of_lines}
 use Rattle.policy_locks.specs.declared.lock.CookbookLock.{CookbookLock}
 use Rattle.policy_locks.specs.declared.lock.Lock.{Lock}
-use Rattle.policy_locks.specs.declared.lock.NamedRunList.{NamedRunList}
+use Rattle.run_lists.specs.declared.by_name.NamedRunList.{NamedRunList}
 
 -- the line of an item
 abbrev pub item_line : Stored → List ℕ

@@ -2,29 +2,30 @@
 use Rattle.std.specs.Prelude.{◌≡◌, ⊤, ℕ, Bool, ◌&&◌, List, [], ◌∷◌, ◌++◌, map, find, Option, Some, is_none, option_map, codes}
 use Rattle.std.specs.List.{flat_map}
 use Rattle.std.specs.List.Sorted.{IsStrictlySortedBy}
+use Rattle.doc_tree.specs.Text.{text_cmp}
 use Rattle.doc_tree.specs.Doc.{Doc, words, list, dict, docs_of, pairs_of}
 use Rattle.doc_tree.specs.declared.tree.Tree.TheVariants as tree
 use Rattle.version_rules.specs.Constraints.{constraint_text}
 use Rattle.version_rules.specs.Versions.{version_text}
 use Rattle.version_rules.specs.declared.needs.Need.{Need}
-use Rattle.run_list.specs.Stored.{Stored}
+use Rattle.run_lists.specs.Stored.{Stored}
 use Rattle.dep_solver.specs.Best.{IsBest}
-use Rattle.dep_solver.specs.Names.{name_cmp, same_name}
+use Rattle.dep_solver.specs.Names.{same_name}
 use Rattle.dep_solver.specs.Refusals.{TellsWhy}
 use Rattle.dep_solver.specs.Solutions.{choice_of}
 use Rattle.dep_solver.specs.Universes.{needs_in, same_version}
 use Rattle.dep_solver.specs.declared.roots.Pin.{Pin}
 use Rattle.dep_solver.specs.declared.roots.Roots.{Roots}
 use Rattle.dep_solver.specs.declared.universe.Universe.{Universe}
-use Rattle.run_list_roots.specs.Asking.{names_in, pins_in}
+use Rattle.run_lists.specs.Asking.{names_in, pins_in}
+use Rattle.run_lists.specs.Reading.{each_of}
 use Rattle.cookbook_meta.specs.Stored.{with_pairs}
 use Rattle.policy_locks.specs.Digests.{lines_by, revision_of}
-use Rattle.policy_locks.specs.Parts.{each_of}
 use Rattle.policy_locks.specs.Stored.{settled_fields}
 use Rattle.policy_locks.specs.declared.identifiers.Identified.{Identified}
 use Rattle.policy_locks.specs.declared.lock.CookbookLock.{CookbookLock}
 use Rattle.policy_locks.specs.declared.lock.Lock.{Lock}
-use Rattle.policy_locks.specs.declared.lock.NamedRunList.{NamedRunList}
+use Rattle.run_lists.specs.declared.by_name.NamedRunList.{NamedRunList}
 use Rattle.policy_locks.specs.declared.make_fault.MakeFault.{MakeFault}
 use Rattle.policy_locks.specs.declared.make_fault.MakeFault.TheVariants.{Unsolvable, NoIdentifier, NoMemory}
 use Rattle.policy_locks.specs.declared.source.PolicySource.{PolicySource}
@@ -45,7 +46,7 @@ pub record AreBest (source : PolicySource) (universe : Universe) (chosen : List 
   pub roots : Roots
   pub of_source : AreRootsOf source roots
   pub best : ∥ IsBest universe source.cookbooks roots (choice_of chosen) ∥₁
-  pub in_order : IsStrictlySortedBy name_cmp (map (λ (pin : Pin). pin.name) chosen)
+  pub in_order : IsStrictlySortedBy text_cmp (map (λ (pin : Pin). pin.name) chosen)
 
 -- ---- identifiers
 

@@ -1,6 +1,7 @@
 -- The parts of a lock's body: names, run lists, locked cookbooks and Dicts.
-use Rattle.std.specs.Prelude.{ℕ, Bool, if◌then◌else◌, List, Option, Some, None, option_map, option_and_then, Result, Ok, Err, ok_or, codes}
-use Rattle.doc_tree.specs.Doc.{Doc, words, dict, Pairs, pairs_of, pairs_list}
+use Rattle.std.specs.Prelude.{ℕ, List, Option, Some, None, option_map, option_and_then, Result, Ok, Err, ok_or, codes}
+use Rattle.doc_tree.specs.Text.{text_of}
+use Rattle.doc_tree.specs.Doc.{Doc, words, Pairs, pairs_of}
 use Rattle.doc_tree.specs.Name.{is_name}
 use Rattle.doc_tree.specs.Part.{pair_at}
 use Rattle.version_rules.specs.Constraints.{reads_constraint}
@@ -8,27 +9,15 @@ use Rattle.version_rules.specs.Terms.{Terms}
 use Rattle.version_rules.specs.Versions.{reads_version}
 use Rattle.version_rules.specs.declared.needs.Need.{Need}
 use Rattle.version_rules.specs.declared.versions.Version.{Version}
-use Rattle.run_list.specs.Stored.{Stored}
-pub use Rattle.run_list_roots.specs.Reading.{each_of, recipes_of, run_list_of}
+pub use Rattle.run_lists.specs.ByName.{dict_of, kept_if, named_run_lists}
+pub use Rattle.run_lists.specs.Reading.{each_of, items_read, recipes_of, run_list_of}
 use Rattle.cookbook_meta.specs.Parts.{is_identifier}
 use Rattle.policy_locks.specs.declared.lock.CookbookLock.{CookbookLock}
-use Rattle.policy_locks.specs.declared.lock.NamedRunList.{NamedRunList}
-use Rattle.policy_locks.specs.declared.parts.Allowed.{Allowed}
-use Rattle.policy_locks.specs.declared.parts.Allowed.TheVariants.{Items, Recipes}
-
--- the text, if it passes the test
-abbrev pub kept_if : (List ℕ → Bool) → List ℕ → Option (List ℕ)
-kept_if test text = if test text then Some text else None
 
 -- what was read, if no fault was found
 abbrev pub read_ok : {A F : Type 0} → Result A F → Option A
 read_ok (Ok x) = Some x
 read_ok (Err fault) = None
-
--- the text that a document is
-abbrev pub text_of : Doc → Option (List ℕ)
-text_of (words text) = Some text
-text_of d = None
 
 -- the Name that a document is
 abbrev pub name_of : Doc → Option (List ℕ)
@@ -45,25 +34,6 @@ identifier_of d = option_and_then (kept_if is_identifier) (text_of d)
 -- the constraint on versions that a document is
 abbrev pub constraint_of : Doc → Option Terms
 constraint_of d = option_and_then (λ text. read_ok (reads_constraint text)) (text_of d)
-
--- the keys of a Dict, each with its document
-abbrev pub dict_of : Doc → Option (List (List ℕ × Doc))
-dict_of (dict ps) = Some (pairs_list ps)
-dict_of d = None
-
--- what a run list that may hold these items is read as
-abbrev pub items_read : Allowed → Doc → Option (List Stored)
-items_read Items d = run_list_of d
-items_read Recipes d = recipes_of d
-
--- a run list under its Name
-abbrev pub named_run_list : Allowed → List ℕ × Doc → Option NamedRunList
-named_run_list allowed pair =
-    option_and_then (λ name. option_map (λ items. record { name = name; run_list = items }) (items_read allowed pair.1)) (kept_if is_name pair.0)
-
--- the run lists under their Names that a document is
-abbrev pub named_run_lists : Allowed → Doc → Option (List NamedRunList)
-named_run_lists allowed d = option_and_then (each_of (named_run_list allowed)) (dict_of d)
 
 -- the version and the identifier at which a Dict locks the cookbook of a name
 abbrev pub locked_at : List ℕ → Pairs → Option CookbookLock

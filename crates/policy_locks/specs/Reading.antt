@@ -8,8 +8,8 @@ use Rattle.policy_locks.specs.Parts.{cookbook_locks, dict_of, kept_if, may, must
 use Rattle.policy_locks.specs.Stored.{whole_of}
 use Rattle.policy_locks.specs.declared.lock.CookbookLock.{CookbookLock}
 use Rattle.policy_locks.specs.declared.lock.Lock.{Lock}
-use Rattle.policy_locks.specs.declared.lock.NamedRunList.{NamedRunList}
-use Rattle.policy_locks.specs.declared.parts.Allowed.TheVariants.{Items}
+use Rattle.run_lists.specs.declared.by_name.NamedRunList.{NamedRunList}
+use Rattle.run_lists.specs.declared.reading.Allowed.TheVariants.{Items}
 
 -- the name is the policy's, where there is one
 abbrev pub is_of : Option (List ℕ) → List ℕ → Bool

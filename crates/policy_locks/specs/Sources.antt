@@ -5,8 +5,8 @@ use Rattle.doc_tree.specs.Valid.{InOrder}
 use Rattle.version_rules.specs.declared.needs.Need.{Need}
 use Rattle.cookbook_meta.specs.Faults.{then_do}
 use Rattle.policy_locks.specs.Parts.{dict_of, may, must, name_of, named_run_lists, needs_of, recipes_of}
-use Rattle.policy_locks.specs.declared.lock.NamedRunList.{NamedRunList}
-use Rattle.policy_locks.specs.declared.parts.Allowed.TheVariants.{Recipes}
+use Rattle.run_lists.specs.declared.by_name.NamedRunList.{NamedRunList}
+use Rattle.run_lists.specs.declared.reading.Allowed.TheVariants.{Recipes}
 use Rattle.policy_locks.specs.declared.source.PolicySource.{PolicySource}
 
 -- the source that a Dict gives, its fields looked at in this order

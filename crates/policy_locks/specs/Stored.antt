@@ -1,17 +1,10 @@
 -- A lock as it is stored.
 use Rattle.std.specs.Prelude.{ℕ, Bool, List, [], ◌∷◌, ◌++◌, map, codes}
-use Rattle.doc_tree.specs.Doc.{Doc, words, list, dict, docs_of, Pairs, pairs_of, pairs_list}
-use Rattle.run_list.specs.Stored.{Stored}
+use Rattle.doc_tree.specs.Doc.{Doc, dict, Pairs, pairs_of, pairs_list}
+use Rattle.run_lists.specs.Stored.{Stored}
+use Rattle.run_lists.specs.Storing.{named_pair, run_list_doc}
 use Rattle.cookbook_meta.specs.Stored.{beside, is_among, with_pairs}
-use Rattle.policy_locks.specs.declared.lock.NamedRunList.{NamedRunList}
-
--- a run list as it is stored
-abbrev pub run_list_doc : List Stored → Doc
-run_list_doc items = list (docs_of (map (λ (item : Stored). words item.text) items))
-
--- a run list under its name, as it is stored
-abbrev pub named_pair : NamedRunList → List ℕ × Doc
-named_pair named = (named.name, run_list_doc named.run_list)
+use Rattle.run_lists.specs.declared.by_name.NamedRunList.{NamedRunList}
 
 -- run lists under their names, as they are stored
 abbrev pub named_doc : List NamedRunList → Doc

@@ -6,9 +6,9 @@ ghost use Rattle.sha2.specs.Sha256.{sha256};
 ghost use Rattle.cookbook_meta.specs.Identifiers.{text_of_lines};
 ghost use Rattle.policy_locks.specs.Digests as spec;
 
-use crate::lock::{CookbookLock, CookbookLocks, Lock, NamedRunLists};
+use crate::lock::{CookbookLock, CookbookLocks, Lock};
 use doc_tree::{Fields, Name, NoMemory, Text, Texts, Tree, json_text};
-use run_list::Items;
+use run_lists::{Items, NamedRunLists};
 use sha2::{Digest, Sha256};
 use std::alloc::Global;
 

@@ -20,7 +20,7 @@ pub use digests::revision_id;
 pub use fault::LockFault;
 pub use identifiers::{Identified, Identifiers};
 pub use laws::{locks_read_back, revisions_are_names};
-pub use lock::{CookbookLock, CookbookLocks, Lock, NamedRunList, NamedRunLists};
+pub use lock::{CookbookLock, CookbookLocks, Lock};
 pub use make_fault::MakeFault;
 pub use making::make_lock;
 pub use reading::{read_lock, read_lock_of};

@@ -2,19 +2,9 @@
 ghost use Rattle.std.specs.Prelude.{◌≡◌};
 
 use doc_tree::{Fields, Listed, Name, Text, Tree};
-use run_list::Items;
+use run_lists::{Items, NamedRunLists};
 use std::alloc::Global;
 use version_rules::Version;
-
-/// A run list under a name.
-#[derive(Drop)]
-pub struct NamedRunList {
-    pub name: Name,
-    pub run_list: Items,
-}
-
-/// Run lists under their names, in order: contracts see the list of them.
-pub type NamedRunLists = Listed<NamedRunList>;
 
 /// A cookbook that is locked: at a version, to the artifact of an identifier.
 #[derive(Debug, PartialEq, Eq, Drop)]

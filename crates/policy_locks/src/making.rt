@@ -1,20 +1,19 @@
 //! Making a lock of a source: the best versions of what it asks for, each with its identifier.
 ghost use Rattle.std.specs.Prelude.{◌≡◌, IfErr, IfOk, Some, []};
 ghost use Rattle.policy_locks.specs.Making as spec;
-ghost use Rattle.policy_locks.specs.Parts.{each_of};
+ghost use Rattle.run_lists.specs.Reading.{each_of};
 
 use crate::depends::solution_of;
 use crate::digests::{digest_name, lines_of};
 use crate::identifiers::{Identifiers, identifier_for};
-use crate::lock::{CookbookLock, CookbookLocks, Lock, NamedRunLists};
+use crate::lock::{CookbookLock, CookbookLocks, Lock};
 use crate::make_fault::MakeFault;
 use crate::put::{put_text, put_tree};
 use crate::source::PolicySource;
 use crate::stored::{put_dicts, put_run_lists};
 use dep_solver::{NoSolution, Pin, Pins, Universe, solve};
 use doc_tree::{Fields, Name, NoMemory, Text, Tree};
-use run_list::Items;
-use run_list_roots::roots_of;
+use run_lists::{Items, NamedRunLists, roots_of};
 use std::alloc::Global;
 
 /// The lock that is made of a source: the best versions of what its run lists ask for under its rules, out of these
@@ -75,7 +74,7 @@ fn all_items(alloc: Global, source: &PolicySource) -> Result<Items, NoMemory>
 
 ghost use Rattle.std.specs.Prelude.{◌++◌, OnOk};
 ghost use Rattle.std.specs.List.{flat_map};
-ghost use Rattle.policy_locks.specs.declared.lock.NamedRunList.{NamedRunList};
+ghost use Rattle.run_lists.specs.declared.by_name.NamedRunList.{NamedRunList};
 
 fn add_lists(alloc: Global, items: &mut Items, lists: &NamedRunLists) -> Result<(), NoMemory>
     ensures { OnOk result (items.new ≡ items.old ++ flat_map (λ (named : NamedRunList). named.run_list) lists.now) }

@@ -5,36 +5,17 @@ ghost use Rattle.doc_tree.specs.Name as names;
 ghost use Rattle.doc_tree.specs.Tree.{doc_of, pair_of};
 ghost use Rattle.policy_locks.specs.Parts as spec;
 
-use crate::lock::{CookbookLock, CookbookLocks, NamedRunList, NamedRunLists};
+use crate::lock::{CookbookLock, CookbookLocks};
 use cookbook_meta::is_identifier;
 use doc_tree::{Field, Fields, Name, NoMemory, Text, Tree};
-use run_list::Items;
-use run_list_roots::{recipes_of, run_list_of};
 use std::alloc::Global;
 use version_rules::{Constraint, Need, Needs, Version, read_constraint, read_version};
-
-/// What a run list may hold.
-#[derive(Clone, Copy, Drop)]
-pub(crate) enum Allowed {
-    Items,
-    Recipes,
-}
-
-/// The text that a tree is.
-fn text_of(tree: &Tree) -> Option<&Text>
-    ensures { option_copied result ≡ spec.text_of (doc_of tree.now) }
-{
-    match tree {
-        Tree::Words(text) => Some(text),
-        Tree::Null | Tree::Bool(_) | Tree::Whole(_) | Tree::List(_) | Tree::Dict(_) => None,
-    }
-}
 
 /// The Name that a tree is.
 pub(crate) fn name_of(alloc: Global, tree: &Tree) -> Result<Option<Name>, NoMemory>
     ensures { IfOk result (λ found. found ≡ spec.name_of (doc_of tree.now)) }
 {
-    match text_of(tree) {
+    match tree.text() {
         Some(text) => name_in(alloc, text),
         None => Ok(None),
     }
@@ -52,7 +33,7 @@ fn name_in(alloc: Global, text: &Text) -> Result<Option<Name>, NoMemory>
 fn version_of(tree: &Tree) -> Option<Version>
     ensures { result ≡ spec.version_of (doc_of tree.now) }
 {
-    match text_of(tree) {
+    match tree.text() {
         Some(text) => version_in(text),
         None => None,
     }
@@ -70,7 +51,7 @@ fn version_in(text: &Text) -> Option<Version>
 fn identifier_of(tree: &Tree) -> Option<&Text>
     ensures { option_copied result ≡ spec.identifier_of (doc_of tree.now) }
 {
-    match text_of(tree) {
+    match tree.text() {
         Some(text) => identifier_in(text),
         None => None,
     }
@@ -89,7 +70,7 @@ fn identifier_in(text: &Text) -> Option<&Text>
 fn constraint_of(tree: &Tree) -> Option<Constraint>
     ensures { result ≡ spec.constraint_of (doc_of tree.now) }
 {
-    match text_of(tree) {
+    match tree.text() {
         Some(text) => constraint_in(text),
         None => None,
     }
@@ -121,67 +102,6 @@ pub(crate) fn fields_of(alloc: Global, tree: &Tree) -> Result<Option<Fields>, No
 {
     match dict_of(tree) {
         Some(fields) => Ok(Some(fields.copy(alloc)?)),
-        None => Ok(None),
-    }
-}
-
-/// The run list that a tree is, which may hold these items.
-pub(crate) fn items_read(
-    alloc: Global,
-    allowed: Allowed,
-    tree: &Tree,
-) -> Result<Option<Items>, NoMemory>
-    ensures { IfOk result (λ found. found ≡ spec.items_read allowed (doc_of tree.now)) }
-{
-    match allowed {
-        Allowed::Items => run_list_of(alloc, tree),
-        Allowed::Recipes => recipes_of(alloc, tree),
-    }
-}
-
-/// The run lists under their Names that a tree is, which may hold these items.
-pub(crate) fn named_run_lists(
-    alloc: Global,
-    allowed: Allowed,
-    tree: &Tree,
-) -> Result<Option<NamedRunLists>, NoMemory>
-    ensures { IfOk result (λ found. found ≡ spec.named_run_lists allowed (doc_of tree.now)) }
-{
-    match dict_of(tree) {
-        Some(fields) => lists_of(alloc, allowed, fields),
-        None => Ok(None),
-    }
-}
-
-fn lists_of(
-    alloc: Global,
-    allowed: Allowed,
-    fields: &Fields,
-) -> Result<Option<NamedRunLists>, NoMemory>
-    ensures { IfOk result (λ found. found ≡ spec.each_of (spec.named_run_list allowed) fields.now) }
-{
-    let mut lists = NamedRunLists::new(alloc);
-    for field in fields.as_slice() {
-        match named_run_list(alloc, allowed, field)? {
-            None => return Ok(None),
-            Some(list) => lists.push(list)?,
-        }
-    }
-    Ok(Some(lists))
-}
-
-fn named_run_list(
-    alloc: Global,
-    allowed: Allowed,
-    field: &Field,
-) -> Result<Option<NamedRunList>, NoMemory>
-    ensures { IfOk result (λ found. found ≡ spec.named_run_list allowed (pair_of field.now)) }
-{
-    let Some(name) = name_in(alloc, &field.key)? else {
-        return Ok(None);
-    };
-    match items_read(alloc, allowed, &field.tree)? {
-        Some(run_list) => Ok(Some(NamedRunList { name, run_list })),
         None => Ok(None),
     }
 }

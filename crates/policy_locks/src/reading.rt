@@ -8,15 +8,15 @@ ghost use Rattle.policy_locks.specs.Outcomes.{Gives};
 ghost use Rattle.policy_locks.specs.Parts as parts;
 ghost use Rattle.policy_locks.specs.Reading as spec;
 ghost use Rattle.policy_locks.specs.Stored as stored;
-ghost use Rattle.policy_locks.specs.declared.parts.Allowed.TheVariants as allowed;
+ghost use Rattle.run_lists.specs.declared.reading.Allowed.TheVariants as allowed;
 
 use crate::fault::{LockFault, bad_field, in_field};
 use crate::fill::fill;
-use crate::lock::{CookbookLocks, Lock, NamedRunLists};
-use crate::parts::{Allowed, cookbook_locks, fields_of, items_read, name_of, named_run_lists};
+use crate::lock::{CookbookLocks, Lock};
+use crate::parts::{cookbook_locks, fields_of, name_of};
 use crate::stored::whole_of;
 use doc_tree::{Fields, Name, NoMemory, Tree};
-use run_list::Items;
+use run_lists::{Allowed, Items, NamedRunLists, items_read, named_run_lists};
 use std::alloc::Global;
 
 /// The lock that a body gives, looked at field by field: `revision_id` and `name`, Names; `run_list`, a list of items;

@@ -6,17 +6,16 @@ ghost use Rattle.cookbook_meta.specs.Faults.{then_do};
 ghost use Rattle.policy_locks.specs.Outcomes.{Gives};
 ghost use Rattle.policy_locks.specs.Parts as parts;
 ghost use Rattle.policy_locks.specs.Sources as spec;
-ghost use Rattle.policy_locks.specs.declared.parts.Allowed.TheVariants as allowed;
+ghost use Rattle.run_lists.specs.declared.reading.Allowed.TheVariants as allowed;
 ghost use Rattle.std.specs.Prelude.{codes};
 
 use crate::fault::{LockFault, bad_field, in_field};
 use crate::fill::fill;
-use crate::lock::{NamedRunList, NamedRunLists};
-use crate::parts::{Allowed, needs_of};
+use crate::parts::needs_of;
 use crate::reading::{dict_at, lists_at, name_at, run_list_at};
 use dep_solver::EnvRules;
 use doc_tree::{Fields, Name, NoMemory, Tree};
-use run_list::Items;
+use run_lists::{Allowed, Items, NamedRunList, NamedRunLists};
 use std::alloc::Global;
 use version_rules::Needs;
 

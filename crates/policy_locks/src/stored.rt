@@ -8,10 +8,10 @@ ghost use Rattle.doc_tree.specs.declared.tree.Tree.TheVariants as tree;
 ghost use Rattle.cookbook_meta.specs.Stored as kept;
 ghost use Rattle.policy_locks.specs.Stored as spec;
 
-use crate::lock::{Lock, NamedRunList, NamedRunLists};
+use crate::lock::Lock;
 use crate::put::put_tree;
-use doc_tree::{Field, Fields, NoMemory, Tree, Trees};
-use run_list::Items;
+use doc_tree::{Field, Fields, NoMemory, Tree};
+use run_lists::{Items, NamedRunList, NamedRunLists, run_list_tree};
 use std::alloc::Global;
 
 /// The keys of the fields that aren't stored as they were sent.
@@ -110,16 +110,6 @@ pub(crate) fn put_dicts(
     Ok(())
 }
 
-fn run_list_tree(alloc: Global, items: &Items) -> Result<Tree, NoMemory>
-    ensures { IfOk result (λ tree. doc_of tree ≡ spec.run_list_doc items.now) }
-{
-    let mut trees = Trees::with_capacity(alloc, items.len())?;
-    for item in items.as_slice() {
-        trees.push(Tree::Words(item.text().copy(alloc)?))?;
-    }
-    Ok(Tree::List(trees))
-}
-
 fn named_tree(alloc: Global, lists: &NamedRunLists) -> Result<Tree, NoMemory>
     ensures { IfOk result (λ tree. doc_of tree ≡ spec.named_doc lists.now) }
 {
@@ -131,9 +121,10 @@ fn named_tree(alloc: Global, lists: &NamedRunLists) -> Result<Tree, NoMemory>
 }
 
 ghost use Rattle.doc_tree.specs.Part.{with_pair};
+ghost use Rattle.run_lists.specs.Storing.{run_list_doc};
 
 fn put_named(alloc: Global, made: &mut Fields, named: &NamedRunList) -> Result<(), NoMemory>
-    ensures { OnOk result (made.new ≡ with_pair named.now.name (spec.run_list_doc named.now.run_list) made.old) }
+    ensures { OnOk result (made.new ≡ with_pair named.now.name (run_list_doc named.now.run_list) made.old) }
 {
     let tree = run_list_tree(alloc, &named.run_list)?;
     put_tree(alloc, made, named.name.as_str(), tree)?;

@@ -1,5 +1,5 @@
 -- What is done to artifacts, policies and policy groups keeps the conditions of files: what an artifact names is there.
-use Rattle.std.proofs.Common.{◌≡◌, Bool, true, false, cond, List, ℕ, [], ◌∷◌, ◌++◌, length, Option, Some, None, is_some, refl, ap}
+use Rattle.std.proofs.Common.{◌≡◌, Bool, true, false, cond, List, ℕ, [], ◌∷◌, ◌++◌, None, is_some, refl}
 use Rattle.std.specs.FinMap as finite
 use Rattle.access_lists.specs.declared.starting.Container.TheVariants as container
 use Rattle.doc_tree.specs.Tree.{doc_of}
@@ -7,22 +7,19 @@ use Rattle.doc_tree.specs.declared.kind.Kind.TheVariants as kinds
 use Rattle.object_store.specs.Objects.{key}
 use Rattle.policy_locks.specs.declared.lock.Lock.{Lock}
 use Rattle.shelves.specs.Shelves.{has_shelf}
-use Rattle.org_core.proofs.FileConditionsLemmas.{IsNamedThere, move_keeps_files, moves_keep_files, put_keeps_files}
+use Rattle.org_core.proofs.FileConditionsLemmas.{IsNamedThere, list_puts_none, move_keeps_files, moves_keep_files, put_keeps_files}
+use Rattle.org_core.proofs.ManifestsLemmas.{named_there, none_told, second_none}
 use Rattle.org_core.specs.Contexts.{Context}
 use Rattle.org_core.specs.Creating.{created_list}
-use Rattle.org_core.specs.FileMoves.{after_all, files_after_move, shelved_by, takes_shelf_room}
+use Rattle.org_core.specs.FileMoves.{after_all, files_after_move, takes_shelf_room}
 use Rattle.org_core.specs.FullStates.{FullState, MeetsFileConditions}
 use Rattle.org_core.specs.Keeping.{KeepsFileConditions, LeadsToFileConditions, full_of}
 use Rattle.org_core.specs.Moves.{after_move}
-use Rattle.org_core.specs.Refusals.{first_some, refuses}
+use Rattle.org_core.specs.Manifests.{missing_sums, missing_told}
 use Rattle.org_core.specs.declared.moves.Move.{Move}
 use Rattle.org_core.specs.declared.moves.Move.TheVariants.{OnShelves, PutList, TakeList}
-use Rattle.org_core.specs.declared.refusals.Refusal.{Refusal}
-use Rattle.org_core.specs.declared.refusals.Refusal.TheVariants.{AlreadyExists}
+use Rattle.org_requests.specs.declared.refusals.Refusal.TheVariants.{AlreadyExists}
 use Rattle.org_shelves.specs.declared.shelf_moves.ShelfMove.TheVariants as shelf
-use Rattle.cookbook_routes.proofs.FileKeepingLemmas.{named_there, none_told}
-use Rattle.cookbook_routes.specs.Sandboxes.{missing_told}
-use Rattle.cookbook_routes.specs.Versions.{missing_sums}
 use Rattle.policy_routes.specs.Artifacts.{artifact_at, artifacts_of, keeps_artifacts}
 use Rattle.policy_routes.specs.Groups.{assigned_by, assigning, has_group, stored_first}
 use Rattle.policy_routes.specs.Policies.{policies_of, revision_at}
@@ -30,18 +27,7 @@ use Rattle.policy_routes.specs.PolicyRules.{policy_does, policy_refusal, policy_
 use Rattle.policy_routes.specs.declared.operations.PolicyOperation.{PolicyOperation}
 use Rattle.policy_routes.specs.declared.operations.PolicyOperation.TheVariants as operation
 
--- ---- an artifact is put where no file is missing
-
-second_none : (there : Bool) (missing : Option Refusal) → first_some (refuses AlreadyExists there ∷ missing ∷ []) ≡ None → missing ≡ None
-second_none true missing is = cc
-second_none false None is = refl
-second_none false (Some refusal) is = cc
-
 -- ---- moves in a row
-
-list_puts_none : (b : Bool) (one : Move) → takes_shelf_room one ≡ false → shelved_by (cond b [] (one ∷ [])) ≡ 0
-list_puts_none true one none = refl
-list_puts_none false one none = ap (λ (b : Bool). length (cond b (one ∷ []) [])) none
 
 -- each of these moves names what is there, whatever the files
 abbrev NameNothing : List Move → Type 0
@@ -82,7 +68,7 @@ does_keep_files context operation.ListArtifacts meets free = meets
 does_keep_files context (operation.ShowArtifact name id) meets free = meets
 does_keep_files context (operation.PutArtifact name id manifest) meets free =
     let none : missing_sums context.files manifest ≡ [] =
-    none_told (missing_sums context.files manifest) (second_none (is_some (artifact_at context name id)) (missing_told (missing_sums context.files manifest)) free) in
+    none_told (missing_sums context.files manifest) (second_none AlreadyExists (is_some (artifact_at context name id)) (missing_told (missing_sums context.files manifest)) free) in
     put_keeps_files context.org (OnShelves (shelf.PutArtifact name id manifest))
     (cond (has_shelf (artifacts_of context) name) [] (PutList (key kinds.Artifact name) (created_list container.CookbookArtifacts context) ∷ [])) (full_of context)
     (list_puts_none (has_shelf (artifacts_of context) name) (PutList (key kinds.Artifact name) (created_list container.CookbookArtifacts context)) refl)

@@ -5,6 +5,7 @@ use Rattle.std.proofs.lemmas.Option.{same_Some}
 use Rattle.std.specs.Ordering.{eq_by_cmp}
 use Rattle.std.specs.Cmp.Lexicographic.{nat_list_cmp_total}
 use Rattle.std.specs.FinMap as finite
+use Rattle.doc_tree.specs.Text.{text_cmp}
 use Rattle.access_lists.specs.declared.acl.Acl.{Acl}
 use Rattle.access_lists.specs.declared.starting.Container.TheVariants as container
 use Rattle.doc_tree.specs.Doc.{Doc}
@@ -16,7 +17,7 @@ use Rattle.object_store.specs.Objects.{key, key_cmp}
 use Rattle.object_store.specs.declared.key.Key.{Key}
 use Rattle.policy_locks.specs.declared.lock.Lock.{Lock}
 use Rattle.shelves.proofs.ShelfLaws.{get-remove_other, get-remove_same, has_shelf-put_other, has_shelf-put_same, has_shelf-without_other, other_name, same_name, tied_name, value-has_shelf, value_at-put_same}
-use Rattle.shelves.specs.Shelves.{has_shelf, put, text_cmp, value_at}
+use Rattle.shelves.specs.Shelves.{has_shelf, put, value_at}
 use Rattle.org_core.proofs.ConditionsLemmas.{created_known}
 use Rattle.org_core.proofs.ListedLemmas.{NamesKnown}
 use Rattle.org_core.proofs.ShelfConditionsLemmas.{SameNames, SameOthers, first_shelved_keeps, last_shelved_keeps, others_from, shelve_keeps}
@@ -39,7 +40,7 @@ use Rattle.org_shelves.specs.ShelfMoves.{after_shelf_move}
 use Rattle.org_shelves.specs.declared.shelf_moves.ShelfMove.{ShelfMove}
 use Rattle.org_shelves.specs.declared.shelf_moves.ShelfMove.TheVariants.{PutArtifact, TakeArtifact, PutRevision, TakePolicy, PutGroup, TakeGroup}
 use Rattle.policy_routes.proofs.ReadLemmas.{WasRead, was_read}
-use Rattle.policy_routes.specs.Artifacts.{artifact_at, artifact_put, artifact_removed, is_artifact_place, keeps_artifacts}
+use Rattle.policy_routes.specs.Artifacts.{artifact_at, artifact_put, artifact_removed, is_artifact_name, keeps_artifacts}
 use Rattle.policy_routes.specs.Groups.{assigned, assigned_lock, group_removed, has_group, unassigned_from}
 use Rattle.policy_routes.specs.Policies.{policies_of, policy_removed, revision_added}
 use Rattle.policy_routes.specs.PolicyRules.{policy_does, policy_lacks, policy_rules}
@@ -273,7 +274,7 @@ does_keep context operation.ListArtifacts meets known read found = meets
 does_keep context (operation.ShowArtifact name id) meets known read found = meets
 does_keep context (operation.PutArtifact name id manifest) meets known read found = put_artifact_keeps context context.state name id manifest meets known read
 does_keep context (operation.RemoveArtifact name id) meets known read found =
-    remove_artifact_keeps context context.state name id meets (not_lacking (is_artifact_place name id) (is_some (artifact_at context name id)) found)
+    remove_artifact_keeps context context.state name id meets (not_lacking (is_artifact_name name id) (is_some (artifact_at context name id)) found)
 does_keep context operation.ListPolicies meets known read found = meets
 does_keep context (operation.ShowPolicy policy) meets known read found = meets
 does_keep context (operation.RemovePolicy policy) meets known read found = remove_policy_keeps context context.state policy meets (not_lacking (is_name policy) (has_shelf (policies_of context) policy) found)

@@ -1,8 +1,8 @@
 -- The shelves of a listing.
 use Rattle.std.proofs.Common.{ℕ, List}
 use Rattle.std.specs.FinMap as finite
+use Rattle.doc_tree.specs.Text.{text_cmp}
 use Rattle.doc_tree.specs.Doc.{Doc}
-use Rattle.shelves.specs.Shelves.{text_cmp}
 use Rattle.shelves.specs.SortedMap.{Sorted, map_of}
 
 -- a shelf with its name, as it is kept and as it is seen

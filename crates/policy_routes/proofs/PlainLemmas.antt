@@ -4,27 +4,26 @@ use Rattle.std.specs.List.{find}
 use Rattle.doc_tree.specs.Doc.{Doc}
 use Rattle.doc_tree.specs.Name.{is_name}
 use Rattle.doc_tree.specs.Tree.{doc_of}
-use Rattle.cookbook_editions.specs.Kept.{artifact_stored_from}
+use Rattle.org_shelves.specs.StoredManifests.{artifact_stored_from}
 use Rattle.cookbook_meta.specs.declared.fault.MetaFault.{MetaFault}
 use Rattle.policy_locks.specs.Reading.{lock_from}
 use Rattle.policy_locks.specs.declared.lock.CookbookLock.{CookbookLock}
 use Rattle.policy_locks.specs.declared.lock.Lock.{Lock}
-use Rattle.route_table.specs.declared.verbs.Verb.{Verb}
-use Rattle.route_table.specs.declared.verbs.Verb.TheVariants.{Get, Post, Put, Delete, Other}
+use Rattle.org_requests.specs.declared.verbs.Verb.{Verb}
+use Rattle.org_requests.specs.declared.verbs.Verb.TheVariants.{Get, Post, Put, Delete, Other}
 use Rattle.sandboxes.specs.Sums.{Sums}
-use Rattle.cookbook_routes.specs.Sandboxes.{missing_told}
-use Rattle.cookbook_routes.specs.Versions.{missing_sums, or_bad_manifest}
+use Rattle.org_core.specs.Manifests.{missing_sums, missing_told, or_bad_manifest}
 use Rattle.org_core.proofs.PlainLemmas.{document_plain}
-use Rattle.org_core.specs.Bodies.{absent, document_in}
+use Rattle.org_requests.specs.Documents.{absent, document_in}
 use Rattle.org_core.specs.Contexts.{Context}
 use Rattle.org_core.specs.Plain.{IsPlain, NeverForbids, RefusesPlainly}
-use Rattle.org_core.specs.Refusals.{first_some, refuses}
-use Rattle.org_core.specs.declared.refusals.Refusal.{Refusal}
-use Rattle.org_core.specs.declared.refusals.Refusal.TheVariants.{AlreadyExists, RevisionDiffers}
-use Rattle.org_core.specs.declared.requests.Body.{Body}
-use Rattle.org_core.specs.declared.routes.PolicyRoute.{PolicyRoute}
-use Rattle.org_core.specs.declared.routes.PolicyRoute.TheVariants.{Artifacts, Artifact, Policies, Policy, Revisions, Revision, Groups, Group, Assignment}
-use Rattle.policy_routes.specs.Artifacts.{artifact_at, artifact_said, is_artifact_place}
+use Rattle.org_requests.specs.Refusals.{first_some, refuses}
+use Rattle.org_requests.specs.declared.refusals.Refusal.{Refusal}
+use Rattle.org_requests.specs.declared.refusals.Refusal.TheVariants.{AlreadyExists, RevisionDiffers}
+use Rattle.org_requests.specs.declared.requests.Body.{Body}
+use Rattle.org_requests.specs.Routes.{PolicyRoute}
+use Rattle.org_requests.specs.declared.routes.PolicyRouteOf.TheVariants.{Artifacts, Artifact, Policies, Policy, Revisions, Revision, Groups, Group, Assignment}
+use Rattle.policy_routes.specs.Artifacts.{artifact_at, artifact_said, is_artifact_name}
 use Rattle.policy_routes.specs.Groups.{differs}
 use Rattle.policy_routes.specs.Locks.{artifact_refusal, is_missing, lock_said, missing_artifact, or_bad_lock}
 use Rattle.policy_routes.specs.Policies.{revision_at}
@@ -91,7 +90,7 @@ asked_plain : (route : PolicyRoute) (verb : Verb) (body : Body) → RefusesPlain
 asked_plain Artifacts verb body = only_get_plain operation.ListArtifacts verb
 asked_plain (Artifact name id) Get body = tt
 asked_plain (Artifact name id) Post body = tt
-asked_plain (Artifact name id) Put body = put_artifact_plain (is_artifact_place name id) name id (document_in body) (document_plain body)
+asked_plain (Artifact name id) Put body = put_artifact_plain (is_artifact_name name id) name id (document_in body) (document_plain body)
 asked_plain (Artifact name id) Delete body = tt
 asked_plain (Artifact name id) Other body = tt
 asked_plain Policies verb body = only_get_plain operation.ListPolicies verb

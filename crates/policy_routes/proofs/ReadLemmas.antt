@@ -1,14 +1,13 @@
 -- What is put was read under its own name.
 use Rattle.std.proofs.Common.{◌≡◌, ℕ, Bool, true, false, cond, ◌&&◌, List, Some, Result, Ok, Err, refl, sym, ap, subst, ◌∙◌}
 use Rattle.std.proofs.lemmas.Bool.{and_parts}
-use Rattle.cookbook_editions.specs.Kept.{IsStoredArtifact, artifact_stored_from}
+use Rattle.org_shelves.specs.StoredManifests.{IsStoredArtifact, artifact_stored_from}
 use Rattle.cookbook_meta.proofs.ArtifactLemmas.{artifact_fits, artifacts_again}
 use Rattle.cookbook_meta.specs.Artifacts.{artifact_from}
 use Rattle.cookbook_meta.specs.Faults.{then_do}
 use Rattle.cookbook_meta.specs.Parts.{is_identifier}
 use Rattle.cookbook_meta.specs.declared.fault.MetaFault.{MetaFault}
 use Rattle.cookbook_meta.specs.declared.manifests.Manifest.{Manifest}
-use Rattle.cookbook_routes.specs.Versions.{or_bad_manifest}
 use Rattle.doc_tree.specs.Doc.{Doc}
 use Rattle.doc_tree.specs.Name.{is_name}
 use Rattle.doc_tree.specs.Tree.{doc_of}
@@ -16,15 +15,16 @@ use Rattle.policy_locks.proofs.LockLemmas.{revision_named}
 use Rattle.policy_locks.specs.Reading.{lock_from}
 use Rattle.policy_locks.specs.declared.lock.Lock.{Lock}
 use Rattle.version_rules.proofs.ReadBack.{versions_read_back}
-use Rattle.route_table.specs.declared.verbs.Verb.{Verb}
-use Rattle.route_table.specs.declared.verbs.Verb.TheVariants.{Get, Post, Put, Delete, Other}
-use Rattle.org_core.specs.Bodies.{absent, document_in}
-use Rattle.org_core.specs.declared.refusals.Refusal.{Refusal}
-use Rattle.org_core.specs.declared.requests.Body.{Body}
-use Rattle.org_core.specs.declared.routes.PolicyRoute.{PolicyRoute}
-use Rattle.org_core.specs.declared.routes.PolicyRoute.TheVariants.{Artifacts, Artifact, Policies, Policy, Revisions, Revision, Groups, Group, Assignment}
+use Rattle.org_requests.specs.declared.verbs.Verb.{Verb}
+use Rattle.org_requests.specs.declared.verbs.Verb.TheVariants.{Get, Post, Put, Delete, Other}
+use Rattle.org_core.proofs.ManifestsLemmas.{said_ok}
+use Rattle.org_requests.specs.Documents.{absent, document_in}
+use Rattle.org_requests.specs.declared.refusals.Refusal.{Refusal}
+use Rattle.org_requests.specs.declared.requests.Body.{Body}
+use Rattle.org_requests.specs.Routes.{PolicyRoute}
+use Rattle.org_requests.specs.declared.routes.PolicyRouteOf.TheVariants.{Artifacts, Artifact, Policies, Policy, Revisions, Revision, Groups, Group, Assignment}
 use Rattle.org_shelves.specs.Conditions.{IsArtifactOf, IsRevisionOf}
-use Rattle.policy_routes.specs.Artifacts.{artifact_said, is_artifact_place}
+use Rattle.policy_routes.specs.Artifacts.{artifact_said, is_artifact_name}
 use Rattle.policy_routes.specs.Locks.{lock_said, or_bad_lock}
 use Rattle.policy_routes.specs.PolicyRules.{adding, assigning_read, only_get, policy_asked, putting_artifact}
 use Rattle.policy_routes.specs.declared.operations.PolicyOperation.{PolicyOperation}
@@ -58,10 +58,6 @@ AskedRead (Err refusal) = Unit {0}
 -- ---- artifacts
 
 -- an artifact that was read is stored: its version, which was read from a text, is read again
-said_ok : (read : Result Doc MetaFault) (manifest : Doc) → or_bad_manifest read ≡ Ok manifest → read ≡ Ok manifest
-said_ok (Ok other) manifest is = cc is
-said_ok (Err fault) manifest is = cc
-
 given : (name id : List ℕ) (body manifest : Doc) (read : Result Manifest MetaFault) → artifact_from name id body ≡ read → then_do read (λ m. Ok (doc_of m.whole)) ≡ Ok manifest → IsStoredArtifact name id manifest
 given name id body manifest (Ok m) is gives =
     let same : doc_of m.whole ≡ manifest = same_doc (doc_of m.whole) manifest gives in
@@ -79,9 +75,9 @@ putting_read : (name id : List ℕ) (said : Result Doc Refusal) → ((manifest :
 putting_read name id (Ok manifest) is = is manifest refl
 putting_read name id (Err refusal) is = tt
 
-put_read : (b : Bool) (name id : List ℕ) (document : Result Doc Refusal) → is_artifact_place name id ≡ b → AskedRead (cond b (putting_artifact name id (artifact_said name id document)) (Err (absent document)))
-put_read true name id document place = putting_read name id (artifact_said name id document) (λ manifest is. ((and_parts (is_name name) (is_identifier id) place).0, said_read name id document manifest is))
-put_read false name id document place = tt
+put_read : (b : Bool) (name id : List ℕ) (document : Result Doc Refusal) → is_artifact_name name id ≡ b → AskedRead (cond b (putting_artifact name id (artifact_said name id document)) (Err (absent document)))
+put_read true name id document named = putting_read name id (artifact_said name id document) (λ manifest is. ((and_parts (is_name name) (is_identifier id) named).0, said_read name id document manifest is))
+put_read false name id document named = tt
 
 -- ---- locks
 
@@ -127,7 +123,7 @@ asked_read : (route : PolicyRoute) (verb : Verb) (body : Body) → AskedRead (po
 asked_read Artifacts verb body = only_get_read operation.ListArtifacts verb tt
 asked_read (Artifact name id) Get body = tt
 asked_read (Artifact name id) Post body = tt
-asked_read (Artifact name id) Put body = put_read (is_artifact_place name id) name id (document_in body) refl
+asked_read (Artifact name id) Put body = put_read (is_artifact_name name id) name id (document_in body) refl
 asked_read (Artifact name id) Delete body = tt
 asked_read (Artifact name id) Other body = tt
 asked_read Policies verb body = only_get_read operation.ListPolicies verb tt

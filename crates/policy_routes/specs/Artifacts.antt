@@ -1,33 +1,33 @@
 -- The routes of artifacts.
 use Rattle.std.specs.Prelude.{ℕ, Bool, not, ◌&&◌, cond, List, [], ◌∷◌, ◌++◌, map, codes, Option, is_some, Result, Ok, Err}
 use Rattle.std.specs.FinMap as finite
+use Rattle.doc_tree.specs.Text.{text_cmp}
 use Rattle.access_lists.specs.declared.perm.Perm.TheVariants as permission
 use Rattle.access_lists.specs.declared.starting.Container.TheVariants as container
-use Rattle.cookbook_editions.specs.Kept.{artifact_stored_from}
-use Rattle.cookbook_editions.specs.Shown.{shown_doc}
+use Rattle.org_shelves.specs.StoredManifests.{artifact_stored_from}
+use Rattle.org_shelves.specs.Showing.{shown_doc}
 use Rattle.cookbook_meta.specs.Parts.{is_identifier}
 use Rattle.cookbook_meta.specs.Stored.{with_pairs}
 use Rattle.doc_tree.specs.Doc.{Doc, words, list, dict, docs_of, pairs_of}
 use Rattle.doc_tree.specs.Name.{is_name}
 use Rattle.doc_tree.specs.declared.kind.Kind.TheVariants as kinds
 use Rattle.object_store.specs.Objects.{key}
-use Rattle.shelves.specs.Shelves.{has_shelf, text_cmp, value_at, without}
+use Rattle.shelves.specs.Shelves.{has_shelf, value_at, without}
 use Rattle.org_core.specs.Contexts.{Context}
 use Rattle.org_core.specs.Creating.{created_list}
+use Rattle.org_core.specs.Manifests.{files_front, missing_sums, missing_told, or_bad_manifest, shown_found}
 use Rattle.org_core.specs.Outcomes.{Decided, does_by, makes, reads, shows, tells}
-use Rattle.org_core.specs.Refusals.{first_some, refuses}
-use Rattle.org_core.specs.Replies.{org_uri}
+use Rattle.org_requests.specs.Refusals.{first_some, refuses}
+use Rattle.org_requests.specs.Replies.{org_uri}
 use Rattle.org_core.specs.States.{shelved_of}
 use Rattle.org_core.specs.declared.moves.Move.{Move}
 use Rattle.org_core.specs.declared.moves.Move.TheVariants as move
 use Rattle.org_core.specs.declared.needs.Need.{Need}
 use Rattle.org_core.specs.declared.needs.Need.TheVariants.{Listed}
-use Rattle.org_core.specs.declared.refusals.Refusal.{Refusal}
-use Rattle.org_core.specs.declared.refusals.Refusal.TheVariants.{AlreadyExists}
+use Rattle.org_requests.specs.declared.refusals.Refusal.{Refusal}
+use Rattle.org_requests.specs.declared.refusals.Refusal.TheVariants.{AlreadyExists}
 use Rattle.org_shelves.specs.Shelved.{Artifacts}
 use Rattle.org_shelves.specs.declared.shelf_moves.ShelfMove.TheVariants as shelf
-use Rattle.cookbook_routes.specs.Sandboxes.{missing_told}
-use Rattle.cookbook_routes.specs.Versions.{files_front, missing_sums, or_bad_manifest, shown_found}
 
 -- the artifacts of an organisation
 abbrev pub artifacts_of : Context → Artifacts
@@ -38,12 +38,12 @@ abbrev pub artifact_at : Context → List ℕ → List ℕ → Option Doc
 artifact_at context name id = value_at (artifacts_of context) name id
 
 -- a name and an identifier have their forms
-abbrev pub is_artifact_place : List ℕ → List ℕ → Bool
-is_artifact_place name id = is_name name && is_identifier id
+abbrev pub is_artifact_name : List ℕ → List ℕ → Bool
+is_artifact_name name id = is_name name && is_identifier id
 
--- there is no such artifact, or its place hasn't the form of one's
+-- there is no such artifact, or its name and identifier haven't their forms
 abbrev pub lacks_artifact : Context → List ℕ → List ℕ → Bool
-lacks_artifact context name id = not (is_artifact_place name id && is_some (artifact_at context name id))
+lacks_artifact context name id = not (is_artifact_name name id && is_some (artifact_at context name id))
 
 -- what is stored of the artifact that a document gives
 abbrev pub artifact_said : List ℕ → List ℕ → Result Doc Refusal → Result Doc Refusal

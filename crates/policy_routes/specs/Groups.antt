@@ -14,17 +14,17 @@ use Rattle.policy_locks.specs.declared.lock.Lock.{Lock}
 use Rattle.std.specs.Prelude.{bytes_eq}
 use Rattle.org_core.specs.Contexts.{Context}
 use Rattle.org_core.specs.Creating.{created_list}
-use Rattle.org_core.specs.Outcomes.{Decided, Told, does_by, makes, reads, shows, tells}
-use Rattle.org_core.specs.Refusals.{first_some, refuses}
-use Rattle.org_core.specs.Replies.{one_key, org_uri, shown}
-use Rattle.org_core.specs.declared.replies.Reply.{Reply}
+use Rattle.org_core.specs.Outcomes.{Decided, does_by, makes_or_shows, reads, shows, tells}
+use Rattle.org_requests.specs.Refusals.{first_some, refuses}
+use Rattle.org_requests.specs.Replies.{one_key, org_uri, shown}
+use Rattle.org_requests.specs.declared.replies.Reply.{Reply}
 use Rattle.org_core.specs.States.{shelved_of}
 use Rattle.org_core.specs.declared.moves.Move.{Move}
 use Rattle.org_core.specs.declared.moves.Move.TheVariants as move
 use Rattle.org_core.specs.declared.needs.Need.{Need}
 use Rattle.org_core.specs.declared.needs.Need.TheVariants.{Listed}
-use Rattle.org_core.specs.declared.refusals.Refusal.{Refusal}
-use Rattle.org_core.specs.declared.refusals.Refusal.TheVariants.{RevisionDiffers}
+use Rattle.org_requests.specs.declared.refusals.Refusal.{Refusal}
+use Rattle.org_requests.specs.declared.refusals.Refusal.TheVariants.{RevisionDiffers}
 use Rattle.org_shelves.specs.Conditions.{assigned_in}
 use Rattle.org_shelves.specs.Shelved.{Assigned, PolicyGroups}
 use Rattle.org_shelves.specs.declared.shelf_moves.ShelfMove.TheVariants as shelf
@@ -146,15 +146,10 @@ first_group_list context group = cond (has_group context group) [] (move.PutList
 abbrev pub assigning : Context → List ℕ → List ℕ → List ℕ → List Move
 assigning context group policy revision = move.OnShelves (shelf.PutGroup group (finite.insert (assigned_by context group) policy revision)) ∷ first_group_list context group
 
--- the reply: 201 where the policy had no assignment in the group, and else 200
-abbrev pub told_of_assigning : Option (List ℕ) → Doc → Told
-told_of_assigning None lock = makes lock
-told_of_assigning (Some revision) lock = shows lock
-
--- a lock is assigned, and stored before where it isn't there
+-- a lock is assigned, and stored before where it isn't there: 201 where the policy had no assignment in the group, and else 200
 abbrev pub assigned : Context → List ℕ → List ℕ → Lock → Decided
 assigned context group policy lock =
-    does_by (told_of_assigning (assigned_in (groups_of context) group policy) (doc_of lock.whole))
+    does_by (makes_or_shows (assigned_in (groups_of context) group policy) (doc_of lock.whole))
     (stored_first context policy lock ++ assigning context group policy lock.revision_id)
     (cond (is_some (revision_at context policy lock.revision_id)) 1 0)
 

@@ -1,6 +1,5 @@
 pub mod Artifacts
 pub mod Moving
-pub mod Stops
 pub mod Locks
 pub mod Policies
 pub mod Groups

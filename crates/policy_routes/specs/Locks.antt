@@ -6,8 +6,8 @@ use Rattle.policy_locks.specs.Reading.{lock_from}
 use Rattle.policy_locks.specs.declared.lock.CookbookLock.{CookbookLock}
 use Rattle.policy_locks.specs.declared.lock.Lock.{Lock}
 use Rattle.org_core.specs.Contexts.{Context}
-use Rattle.org_core.specs.declared.refusals.Refusal.{Refusal}
-use Rattle.org_core.specs.declared.refusals.Refusal.TheVariants.{BadField, MissingArtifact}
+use Rattle.org_requests.specs.declared.refusals.Refusal.{Refusal}
+use Rattle.org_requests.specs.declared.refusals.Refusal.TheVariants.{BadField, MissingArtifact}
 use Rattle.policy_routes.specs.Artifacts.{artifact_at}
 
 -- the lock that was read, or its first bad field

@@ -1,6 +1,7 @@
 -- The routes of policies and their revisions.
 use Rattle.std.specs.Prelude.{ℕ, Bool, not, ◌&&◌, cond, List, [], ◌∷◌, ◌++◌, map, codes, Option, is_some, unwrap_or}
 use Rattle.std.specs.FinMap as finite
+use Rattle.doc_tree.specs.Text.{text_cmp}
 use Rattle.access_lists.specs.declared.perm.Perm.TheVariants as permission
 use Rattle.access_lists.specs.declared.starting.Container.TheVariants as container
 use Rattle.cookbook_meta.specs.Stored.{with_pairs}
@@ -10,20 +11,20 @@ use Rattle.doc_tree.specs.Tree.{doc_of}
 use Rattle.doc_tree.specs.declared.kind.Kind.TheVariants as kinds
 use Rattle.object_store.specs.Objects.{key}
 use Rattle.policy_locks.specs.declared.lock.Lock.{Lock}
-use Rattle.shelves.specs.Shelves.{has_shelf, shelf_of, text_cmp, value_at}
+use Rattle.shelves.specs.Shelves.{has_shelf, shelf_of, value_at}
 use Rattle.org_core.specs.Contexts.{Context}
 use Rattle.org_core.specs.Creating.{created_list}
 use Rattle.org_core.specs.Outcomes.{Decided, does_by, makes, reads, shows, tells}
-use Rattle.org_core.specs.Refusals.{first_some, refuses}
-use Rattle.org_core.specs.Replies.{one_key, org_uri, shown}
-use Rattle.org_core.specs.declared.replies.Reply.{Reply}
+use Rattle.org_requests.specs.Refusals.{first_some, refuses}
+use Rattle.org_requests.specs.Replies.{one_key, org_uri, shown}
+use Rattle.org_requests.specs.declared.replies.Reply.{Reply}
 use Rattle.org_core.specs.States.{shelved_of}
 use Rattle.org_core.specs.declared.moves.Move.{Move}
 use Rattle.org_core.specs.declared.moves.Move.TheVariants as move
 use Rattle.org_core.specs.declared.needs.Need.{Need}
 use Rattle.org_core.specs.declared.needs.Need.TheVariants.{Listed}
-use Rattle.org_core.specs.declared.refusals.Refusal.{Refusal}
-use Rattle.org_core.specs.declared.refusals.Refusal.TheVariants.{AlreadyExists}
+use Rattle.org_requests.specs.declared.refusals.Refusal.{Refusal}
+use Rattle.org_requests.specs.declared.refusals.Refusal.TheVariants.{AlreadyExists}
 use Rattle.org_shelves.specs.Shelved.{Policies}
 use Rattle.org_shelves.specs.declared.shelf_moves.ShelfMove.TheVariants as shelf
 use Rattle.policy_routes.specs.Locks.{artifact_refusal}

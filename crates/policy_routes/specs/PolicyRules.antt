@@ -6,20 +6,20 @@ use Rattle.doc_tree.specs.Name.{is_name}
 use Rattle.doc_tree.specs.declared.kind.Kind.TheVariants as kinds
 use Rattle.object_store.specs.Objects.{key}
 use Rattle.policy_locks.specs.declared.lock.Lock.{Lock}
-use Rattle.route_table.specs.declared.verbs.Verb.{Verb}
-use Rattle.route_table.specs.declared.verbs.Verb.TheVariants.{Get, Post, Put, Delete, Other}
-use Rattle.org_core.specs.Bodies.{absent, document_in}
+use Rattle.org_requests.specs.declared.verbs.Verb.{Verb}
+use Rattle.org_requests.specs.declared.verbs.Verb.TheVariants.{Get, Post, Put, Delete, Other}
+use Rattle.org_requests.specs.Documents.{absent, document_in}
 use Rattle.org_core.specs.Contexts.{Context}
 use Rattle.org_core.specs.Outcomes.{Decided}
 use Rattle.org_core.specs.Rules.{Rules}
 use Rattle.org_core.specs.declared.needs.Need.{Need}
 use Rattle.org_core.specs.declared.needs.Need.TheVariants.{Listed}
-use Rattle.org_core.specs.declared.refusals.Refusal.{Refusal}
-use Rattle.org_core.specs.declared.refusals.Refusal.TheVariants.{NotAllowed}
-use Rattle.org_core.specs.declared.requests.Body.{Body}
-use Rattle.org_core.specs.declared.routes.PolicyRoute.{PolicyRoute}
-use Rattle.org_core.specs.declared.routes.PolicyRoute.TheVariants.{Artifacts, Artifact, Policies, Policy, Revisions, Revision, Groups, Group, Assignment}
-use Rattle.policy_routes.specs.Artifacts.{artifact_put, artifact_removed, artifact_said, artifact_shown, artifacts_listed, is_artifact_place, lacks_artifact, put_artifact_need, put_artifact_refusal}
+use Rattle.org_requests.specs.declared.refusals.Refusal.{Refusal}
+use Rattle.org_requests.specs.declared.refusals.Refusal.TheVariants.{NotAllowed}
+use Rattle.org_requests.specs.declared.requests.Body.{Body}
+use Rattle.org_requests.specs.Routes.{PolicyRoute}
+use Rattle.org_requests.specs.declared.routes.PolicyRouteOf.TheVariants.{Artifacts, Artifact, Policies, Policy, Revisions, Revision, Groups, Group, Assignment}
+use Rattle.policy_routes.specs.Artifacts.{artifact_put, artifact_removed, artifact_said, artifact_shown, artifacts_listed, is_artifact_name, lacks_artifact, put_artifact_need, put_artifact_refusal}
 use Rattle.policy_routes.specs.Groups.{assigned, assigning_needs, assigning_refusal, assignment_shown, group_need, group_removed, group_shown, groups_listed, lacks_assignment, lacks_group, unassigned_from}
 use Rattle.policy_routes.specs.Locks.{lock_said}
 use Rattle.policy_routes.specs.Policies.{lacks_policy, lacks_revision, policies_listed, policy_removed, policy_shown, revision_added, revision_need, revision_refusal, revision_shown}
@@ -57,7 +57,7 @@ putting_artifact name id (Err refusal) = Err refusal
 
 -- the body of a PUT is looked at in full where the path has the form of an artifact's
 abbrev pub put_artifact : List ℕ → List ℕ → Body → Result PolicyOperation Refusal
-put_artifact name id body = cond (is_artifact_place name id) (putting_artifact name id (artifact_said name id (document_in body))) (Err (absent (document_in body)))
+put_artifact name id body = cond (is_artifact_name name id) (putting_artifact name id (artifact_said name id (document_in body))) (Err (absent (document_in body)))
 
 -- what is asked of an artifact
 abbrev pub artifact_asked : List ℕ → List ℕ → Verb → Body → Result PolicyOperation Refusal

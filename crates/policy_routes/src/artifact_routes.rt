@@ -1,36 +1,35 @@
 //! The routes of artifacts.
 
 ghost use Rattle.std.specs.Prelude.{◌≡◌, ◌∷◌, ◌&&◌, None, Some, Ok, IfOk, OnOk, is_some, not, cond, map, option_copied};
+ghost use Rattle.doc_tree.specs.Text.{text_cmp};
 ghost use Rattle.doc_tree.specs.Name.{is_name as spec_is_name};
 ghost use Rattle.doc_tree.specs.Part.{with_pair};
 ghost use Rattle.doc_tree.specs.Tree.{doc_of};
-ghost use Rattle.shelves.specs.Shelves.{has_shelf, shelves_of, text_cmp};
+ghost use Rattle.shelves.specs.Shelves.{has_shelf, shelves_of};
 ghost use Rattle.shelves.specs.SortedMap.{map_of};
-ghost use Rattle.org_core.specs.Bodies as bodies;
+ghost use Rattle.org_requests.specs.Documents as bodies;
 ghost use Rattle.org_core.specs.Contexts.{seen};
-ghost use Rattle.org_core.specs.Outcomes.{Finds, Looked};
-ghost use Rattle.org_core.specs.Refusals.{Tells};
-ghost use Rattle.org_core.specs.Replies.{with_body};
-ghost use Rattle.cookbook_editions.specs.Shown.{shown_doc};
-ghost use Rattle.cookbook_routes.specs.Versions.{files_front, shown_found as spec_shown_found};
+ghost use Rattle.org_core.specs.Manifests.{files_front, shown_found as spec_shown_found};
+ghost use Rattle.org_core.specs.Outcomes.{Looked, IsAsDecided};
+ghost use Rattle.org_requests.specs.Refusals.{Tells};
+ghost use Rattle.org_requests.specs.Replies.{with_body};
+ghost use Rattle.org_shelves.specs.Showing.{shown_doc};
 ghost use Rattle.policy_routes.specs.Artifacts as spec;
 ghost use Rattle.policy_routes.specs.Moving.{if_there};
 ghost use Rattle.policy_routes.specs.PolicyRules as rules;
 
-use crate::moving::{list_of_first, or_stop, prepared, reply_with, told, unmoved};
+use crate::moving::{list_of_first, prepared};
 use crate::operations::PolicyOperation;
 use crate::trees::put;
 use access_lists::{Container, Perm};
-use cookbook_editions::Edition;
 use cookbook_meta::is_identifier;
-use cookbook_routes::{bad_manifest, missing_sums, shown_edition, shown_found};
 use doc_tree::{Fields, Kind, Name, NoMemory, Steps, Text, Tree, Trees, is_name};
 use org_core::{
-    Body, Context, Move, Need, Prepared, Refusal, Reply, Stop, absent, document_in, joined, key_of,
-    listed_need, made, org_uri,
+    Context, Move, Need, Prepared, bad_manifest, key_of, listed_need, missing_sums, missing_told,
+    or_stop, prepared_showing, reply_showing, shown_edition, shown_found, unmoved,
 };
-use org_shelves::{Artifacts, ShelfMove};
-use route_table::Verb;
+use org_requests::{Body, Refusal, Reply, Stop, Verb, absent, document_in, made, org_uri};
+use org_shelves::{Artifacts, Edition, ShelfMove};
 use shelves::SortedMap;
 use std::alloc::Global;
 use std::sync::ledger::Ledger;
@@ -98,12 +97,12 @@ pub(crate) fn artifact_at<'c>(context: Context<'c>, name: &Text, id: &Text) -> O
     context.state.shelves().artifacts().get(name, id)
 }
 
-/// Whether there is no such artifact, or its place hasn't the form of one's.
+/// Whether there is no such artifact, or its name and identifier haven't their forms.
 pub(crate) fn lacks_artifact(context: Context<'_>, name: &Text, id: &Text) -> bool
     ensures { result ≡ spec.lacks_artifact (seen context.entry) name.now id.now }
 {
-    let is_place = is_name(name.as_str()) && is_identifier(id.as_str());
-    !(is_place && artifact_at(context, name, id).is_some())
+    let is_artifact_name = is_name(name.as_str()) && is_identifier(id.as_str());
+    !(is_artifact_name && artifact_at(context, name, id).is_some())
 }
 
 fn has_artifacts(context: Context<'_>, name: &Text) -> bool
@@ -136,19 +135,15 @@ pub(crate) fn put_refusal(
     if artifact_at(context, name, id).is_some() {
         return Ok(Some(Refusal::AlreadyExists));
     }
-    let missing = missing_sums(alloc, context, edition)?;
-    if missing.is_empty() {
-        return Ok(None);
-    }
-    Ok(Some(Refusal::MissingChecksums(missing)))
+    Ok(missing_told(missing_sums(alloc, context, edition)?))
 }
 
 /// The artifacts are listed.
 pub(crate) fn list(alloc: Global, context: Context<'_>) -> Result<Prepared, Stop>
-    ensures { Finds result (spec.artifacts_listed (seen context.entry)).answer }
+    ensures { IsAsDecided result (spec.artifacts_listed (seen context.entry)).answer }
 {
     let tree = listing_tree(alloc, context.org, context.state.shelves().artifacts())?;
-    or_stop(told(alloc, tree))
+    or_stop(prepared_showing(alloc, tree))
 }
 
 fn listing_tree(alloc: Global, org: &Text, artifacts: &Artifacts) -> Result<Tree, NoMemory>
@@ -209,15 +204,15 @@ fn artifact_path(alloc: Global, org: &Text, name: &Text, id: &Text) -> Result<Te
     ensures { IfOk result (λ path. path ≡ spec.artifact_path org.now name.now id.now) }
 {
     let path = artifacts_path(alloc, org, name)?;
-    let front = joined(alloc, path.as_str(), "/")?;
-    joined(alloc, front.as_str(), id.as_str())
+    let front = Text::joined(alloc, path.as_str(), "/")?;
+    Text::joined(alloc, front.as_str(), id.as_str())
 }
 
 fn artifacts_path(alloc: Global, org: &Text, name: &Text) -> Result<Text, NoMemory>
     ensures { IfOk result (λ path. path ≡ spec.artifacts_path org.now name.now) }
 {
-    let front = joined(alloc, org_uri(alloc, org)?.as_str(), "/cookbook_artifacts/")?;
-    joined(alloc, front.as_str(), name.as_str())
+    let front = Text::joined(alloc, org_uri(alloc, org)?.as_str(), "/cookbook_artifacts/")?;
+    Text::joined(alloc, front.as_str(), name.as_str())
 }
 
 /// An artifact is shown.
@@ -228,7 +223,7 @@ pub(crate) fn show<L: Ledger>(
     id: Text,
     steps: &mut Steps<L>,
 ) -> Result<Prepared, Stop>
-    ensures done { Finds result (spec.artifact_shown (seen context.entry) name id).answer }
+    ensures done { IsAsDecided result (spec.artifact_shown (seen context.entry) name id).answer }
     ensures looked { Looked result (spec.artifact_shown (seen context.entry) name id).looks steps.old steps.new }
 {
     steps.tick();
@@ -245,7 +240,7 @@ fn artifact_reply(
     ensures { IfOk result (λ reply. reply ≡ with_body 200 (spec_shown_found (seen context.entry).org (spec.artifact_at (seen context.entry) name.now id.now))) }
 {
     let tree = shown_found(alloc, context.org, artifact_at(context, name, id))?;
-    reply_with(alloc, tree)
+    reply_showing(alloc, tree)
 }
 
 /// An artifact is put.
@@ -256,7 +251,7 @@ pub(crate) fn put_artifact(
     id: Text,
     edition: Edition,
 ) -> Result<Prepared, Stop>
-    ensures { Finds result (spec.artifact_put (seen context.entry) name id edition).answer }
+    ensures { IsAsDecided result (spec.artifact_put (seen context.entry) name id edition).answer }
 {
     match put_told(alloc, context, &name, &edition) {
         Ok((reply, list)) => {
@@ -305,7 +300,7 @@ pub(crate) fn remove<L: Ledger>(
     id: Text,
     steps: &mut Steps<L>,
 ) -> Result<Prepared, Stop>
-    ensures done { Finds result (spec.artifact_removed (seen context.entry) name id).answer }
+    ensures done { IsAsDecided result (spec.artifact_removed (seen context.entry) name id).answer }
     ensures looked { Looked result (spec.artifact_removed (seen context.entry) name id).looks steps.old steps.new }
 {
     steps.tick();
@@ -314,7 +309,7 @@ pub(crate) fn remove<L: Ledger>(
 
 // 200 with an artifact's manifest as it was, and the moves that take it away.
 fn removed(alloc: Global, context: Context<'_>, name: Text, id: Text) -> Result<Prepared, NoMemory>
-    ensures { IfOk result (λ p. Finds (Ok p) (spec.artifact_removed (seen context.entry) name id).answer) }
+    ensures { IfOk result (λ p. IsAsDecided (Ok p) (spec.artifact_removed (seen context.entry) name id).answer) }
 {
     let reply = artifact_reply(alloc, context, &name, &id)?;
     let list = list_of_last(alloc, context, &name, &id)?;

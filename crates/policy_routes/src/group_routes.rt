@@ -2,33 +2,32 @@
 
 ghost use Rattle.std.specs.Prelude.{◌≡◌, [], ◌∷◌, ◌++◌, IfOk, Ok, OnOk, cond, is_some, not, ◌&&◌, option_copied, option_map, unwrap_or};
 ghost use Rattle.doc_tree.specs.Tree.{doc_of};
-ghost use Rattle.shelves.specs.Shelves.{text_cmp};
 ghost use Rattle.shelves.specs.SortedMap.{map_of};
 ghost use Rattle.org_core.specs.Contexts.{seen};
-ghost use Rattle.org_core.specs.Outcomes.{Finds, Looked};
-ghost use Rattle.org_core.specs.Refusals.{Tells};
-ghost use Rattle.org_core.specs.Replies.{with_body};
+ghost use Rattle.org_core.specs.Outcomes.{IsAsDecided, Looked};
+ghost use Rattle.org_requests.specs.Refusals.{Tells};
 ghost use Rattle.org_shelves.specs.Conditions.{assigned_in};
 ghost use Rattle.std.specs.FinMap as finite;
+ghost use Rattle.doc_tree.specs.Text.{text_cmp};
 ghost use Rattle.policy_routes.specs.Groups as spec;
 ghost use Rattle.policy_routes.specs.Moving.{if_there};
 ghost use Rattle.policy_routes.specs.Policies as policies;
 ghost use Rattle.policy_routes.specs.PolicyRules as rules;
 
 use crate::lock_bodies::{artifact_refusal, lock_in};
-use crate::moving::{add, list_of_first, or_stop, prepared, reply_with, told, unmoved};
+use crate::moving::{add, list_of_first, prepared};
 use crate::operations::PolicyOperation;
 use crate::revision_routes::{lock_reply, revision_at, revision_moves, revision_need};
 use crate::trees::put;
 use access_lists::{Container, Perm};
 use doc_tree::{Fields, Kind, Name, NoMemory, Steps, Text, Tree, is_name, one_text};
 use org_core::{
-    Body, Context, Move, Moves, Need, Needs, Prepared, Refusal, Reply, Stop, absent, joined,
-    key_of, listed_need, made, org_uri, shown,
+    Context, Move, Moves, Need, Needs, Prepared, key_of, listed_need, or_stop, prepared_showing,
+    reply_showing, unmoved,
 };
+use org_requests::{Body, Refusal, Reply, Stop, Verb, absent, made_or_shown, org_uri};
 use org_shelves::{Assignments, PolicyGroups, Revision, ShelfMove};
 use policy_locks::Lock;
-use route_table::Verb;
 use std::alloc::Global;
 use std::sync::ledger::Ledger;
 
@@ -176,10 +175,10 @@ fn differs(stored: Option<&Revision>, lock: &Tree) -> bool
 
 /// The policy groups are listed.
 pub(crate) fn list(alloc: Global, context: Context<'_>) -> Result<Prepared, Stop>
-    ensures { Finds result (spec.groups_listed (seen context.entry)).answer }
+    ensures { IsAsDecided result (spec.groups_listed (seen context.entry)).answer }
 {
     let tree = listing_tree(alloc, context.org, context.state.shelves().groups())?;
-    or_stop(told(alloc, tree))
+    or_stop(prepared_showing(alloc, tree))
 }
 
 fn listing_tree(alloc: Global, org: &Text, groups: &PolicyGroups) -> Result<Tree, NoMemory>
@@ -213,8 +212,8 @@ fn group_tree(
 fn group_path(alloc: Global, org: &Text, name: &Text) -> Result<Text, NoMemory>
     ensures { IfOk result (λ path. path ≡ spec.group_path org.now name.now) }
 {
-    let front = joined(alloc, org_uri(alloc, org)?.as_str(), "/policy_groups/")?;
-    joined(alloc, front.as_str(), name.as_str())
+    let front = Text::joined(alloc, org_uri(alloc, org)?.as_str(), "/policy_groups/")?;
+    Text::joined(alloc, front.as_str(), name.as_str())
 }
 
 fn assigned_tree(alloc: Global, assignments: &Assignments) -> Result<Tree, NoMemory>
@@ -242,7 +241,7 @@ fn revision_tree(alloc: Global, revision: &Text) -> Result<Tree, NoMemory>
 
 /// A policy group is shown.
 pub(crate) fn show(alloc: Global, context: Context<'_>, group: Text) -> Result<Prepared, Stop>
-    ensures { Finds result (spec.group_shown (seen context.entry) group).answer }
+    ensures { IsAsDecided result (spec.group_shown (seen context.entry) group).answer }
 {
     or_stop(unmoved(alloc, group_reply(alloc, context, &group)))
 }
@@ -252,7 +251,7 @@ fn group_reply(alloc: Global, context: Context<'_>, group: &Text) -> Result<Repl
     ensures { IfOk result (λ reply. reply ≡ spec.group_reply (seen context.entry) group.now) }
 {
     let tree = found_tree(alloc, context.org, group, group_of(context, group))?;
-    reply_with(alloc, tree)
+    reply_showing(alloc, tree)
 }
 
 // A group, of which one that isn't there assigns nothing.
@@ -272,7 +271,7 @@ fn found_tree(
 
 /// A policy group goes, with its list. The revisions that it assigned stay.
 pub(crate) fn remove(alloc: Global, context: Context<'_>, group: Text) -> Result<Prepared, Stop>
-    ensures { Finds result (spec.group_removed (seen context.entry) group).answer }
+    ensures { IsAsDecided result (spec.group_removed (seen context.entry) group).answer }
 {
     let reply = group_reply(alloc, context, &group)?;
     let key = key_of(alloc, Kind::PolicyGroup, group.as_str())?;
@@ -288,7 +287,7 @@ pub(crate) fn show_assignment<L: Ledger>(
     policy: Text,
     steps: &mut Steps<L>,
 ) -> Result<Prepared, Stop>
-    ensures done { Finds result (spec.assignment_shown (seen context.entry) group policy).answer }
+    ensures done { IsAsDecided result (spec.assignment_shown (seen context.entry) group policy).answer }
     ensures looked { Looked result (spec.assignment_shown (seen context.entry) group policy).looks steps.old steps.new }
 {
     steps.tick();
@@ -305,7 +304,7 @@ pub(crate) fn assign<L: Ledger>(
     lock: Lock,
     steps: &mut Steps<L>,
 ) -> Result<Prepared, Stop>
-    ensures done { Finds result (spec.assigned (seen context.entry) group policy lock).answer }
+    ensures done { IsAsDecided result (spec.assigned (seen context.entry) group policy lock).answer }
     ensures looked { Looked result (spec.assigned (seen context.entry) group policy lock).looks steps.old steps.new }
 {
     let is_stored = revision_at(context, &policy, lock.revision_id.as_text()).is_some();
@@ -325,10 +324,10 @@ fn assigned(
     lock: Lock,
 ) -> Result<Prepared, NoMemory>
     requires { is_stored ≡ is_some (policies.revision_at (seen context) policy lock.revision_id) }
-    ensures { IfOk result (λ p. Finds (Ok p) (spec.assigned (seen context.entry) group policy lock).answer) }
+    ensures { IfOk result (λ p. IsAsDecided (Ok p) (spec.assigned (seen context.entry) group policy lock).answer) }
 {
     let is_new = assigned_revision(context, &group, &policy).is_none();
-    match told_of_assigning(alloc, is_new, &lock.whole) {
+    match made_or_shown(alloc, is_new, &lock.whole) {
         Ok(reply) => Ok(Prepared {
             reply,
             moves: assigned_moves(alloc, context, is_stored, group, &policy, lock)?,
@@ -383,17 +382,6 @@ fn stored_first(
             drop(lock);
             Err(fault)
         }
-    }
-}
-
-// 201 for what is new, and else 200.
-fn told_of_assigning(alloc: Global, is_new: bool, lock: &Tree) -> Result<Reply, NoMemory>
-    ensures { IfOk result (λ reply. reply ≡ with_body (cond is_new 201 200) (doc_of lock.now)) }
-{
-    if is_new {
-        made(alloc, lock)
-    } else {
-        shown(alloc, lock)
     }
 }
 
@@ -464,7 +452,7 @@ pub(crate) fn unassign<L: Ledger>(
     policy: Text,
     steps: &mut Steps<L>,
 ) -> Result<Prepared, Stop>
-    ensures done { Finds result (spec.unassigned_from (seen context.entry) group policy).answer }
+    ensures done { IsAsDecided result (spec.unassigned_from (seen context.entry) group policy).answer }
     ensures looked { Looked result (spec.unassigned_from (seen context.entry) group policy).looks steps.old steps.new }
 {
     steps.tick();
@@ -478,7 +466,7 @@ fn unassigned(
     group: Text,
     policy: &Text,
 ) -> Result<Prepared, NoMemory>
-    ensures { IfOk result (λ p. Finds (Ok p) (spec.unassigned_from (seen context.entry) group policy.now).answer) }
+    ensures { IfOk result (λ p. IsAsDecided (Ok p) (spec.unassigned_from (seen context.entry) group policy.now).answer) }
 {
     let reply = lock_reply(alloc, assigned_lock(context, &group, policy))?;
     let assignments = without_assignment(alloc, group_of(context, &group), policy)?;

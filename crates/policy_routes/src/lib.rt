@@ -13,6 +13,6 @@ mod policy_listings;
 mod revision_routes;
 mod trees;
 
-pub use laws::{policies_are_orderly, policies_keep_conditions};
+pub use laws::policies_are_lawful;
 pub use operations::PolicyOperation;
 pub use policies::Policies;

@@ -3,14 +3,15 @@
 ghost use Rattle.std.specs.Prelude.{◌≡◌, Some, Ok, IfOk, not, is_some, option_copied};
 ghost use Rattle.std.specs.List.{find};
 ghost use Rattle.doc_tree.specs.Tree.{doc_of};
-ghost use Rattle.org_core.specs.Bodies as bodies;
+ghost use Rattle.org_requests.specs.Documents as bodies;
 ghost use Rattle.org_core.specs.Contexts.{seen};
-ghost use Rattle.org_core.specs.Refusals.{Tells};
+ghost use Rattle.org_requests.specs.Refusals.{Tells};
 ghost use Rattle.policy_routes.specs.Locks as spec;
 
 use crate::artifact_routes::artifact_at;
 use doc_tree::{Name, NoMemory, Tree};
-use org_core::{Body, Context, Refusal, Stop, document_in};
+use org_core::Context;
+use org_requests::{Body, Refusal, Stop, document_in};
 use policy_locks::{CookbookLock, Lock, LockFault, read_lock_of};
 use std::alloc::Global;
 

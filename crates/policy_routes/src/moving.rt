@@ -1,20 +1,16 @@
 //! How the moves of an operation are put together: one move, and behind it another where there is one.
 
-ghost use Rattle.std.specs.Prelude.{◌≡◌, [], ◌∷◌, ◌++◌, IfOk, Ok, OnOk, cond};
-ghost use Rattle.doc_tree.specs.Tree.{doc_of};
+ghost use Rattle.std.specs.Prelude.{◌≡◌, [], ◌∷◌, ◌++◌, IfOk, OnOk, cond};
 ghost use Rattle.object_store.specs.Objects.{key};
 ghost use Rattle.org_core.specs.Contexts.{seen};
 ghost use Rattle.org_core.specs.Creating.{created_list as spec_created_list};
-ghost use Rattle.org_core.specs.Replies.{shown as spec_shown};
 ghost use Rattle.org_core.specs.declared.moves.Move.TheVariants as move;
 ghost use Rattle.policy_routes.specs.Moving as spec;
-ghost use Rattle.policy_routes.specs.Stops.{or_stop as spec_or_stop};
 
 use access_lists::Container;
-use doc_tree::{Kind, NoMemory, Text, Tree};
-use org_core::{
-    Context, Move, Moves, Prepared, Reply, Stop, add_both, created_list, key_of, shown,
-};
+use doc_tree::{Kind, NoMemory, Text};
+use org_core::{Context, Move, Moves, Prepared, add_both, created_list, key_of};
+use org_requests::Reply;
 use std::alloc::Global;
 
 /// Puts a move behind others, and behind it another where there is one.
@@ -49,41 +45,6 @@ pub(crate) fn prepared(
         reply,
         moves: followed(alloc, one, other)?,
     })
-}
-
-/// 200 with a tree, which ends here.
-pub(crate) fn reply_with(alloc: Global, tree: Tree) -> Result<Reply, NoMemory>
-    ensures { IfOk result (λ reply. reply ≡ spec_shown (doc_of tree)) }
-{
-    let reply = shown(alloc, &tree);
-    drop(tree);
-    reply
-}
-
-/// 200 with a tree, and no move.
-pub(crate) fn told(alloc: Global, tree: Tree) -> Result<Prepared, NoMemory>
-    ensures reply { IfOk result (λ p. p.reply ≡ spec_shown (doc_of tree)) }
-    ensures moves { IfOk result (λ p. p.moves ≡ []) }
-{
-    unmoved(alloc, reply_with(alloc, tree))
-}
-
-/// A reply, where there was memory for it, and no move.
-pub(crate) fn unmoved(alloc: Global, reply: Result<Reply, NoMemory>) -> Result<Prepared, NoMemory>
-    ensures reply { IfOk result (λ p. reply ≡ Ok p.reply) }
-    ensures moves { IfOk result (λ p. p.moves ≡ []) }
-{
-    Ok(Prepared {
-        reply: reply?,
-        moves: Moves::new(alloc),
-    })
-}
-
-/// What was prepared, or want of memory as a stop.
-pub(crate) fn or_stop(prepared: Result<Prepared, NoMemory>) -> Result<Prepared, Stop>
-    ensures { result ≡ spec_or_stop prepared }
-{
-    Ok(prepared?)
 }
 
 /// The list that comes with the first thing of a name, where none is there yet.

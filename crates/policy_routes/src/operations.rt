@@ -1,8 +1,8 @@
 //! What can be asked of artifacts, policies and policy groups: one operation for each path and method of the table of
 //! routes, with all that the path and the body say.
 
-use cookbook_editions::Edition;
 use doc_tree::Text;
+use org_shelves::Edition;
 use policy_locks::Lock;
 
 /// What can be asked of artifacts, policies and policy groups.

@@ -2,7 +2,7 @@
 
 ghost use Rattle.std.specs.Prelude.{◌≡◌, ◌∷◌, [], IfOk};
 ghost use Rattle.org_core.specs.Contexts.{seen};
-ghost use Rattle.org_core.specs.Refusals.{Tells};
+ghost use Rattle.org_requests.specs.Refusals.{Tells};
 ghost use Rattle.policy_routes.specs.PolicyRules as spec;
 
 use crate::operations::PolicyOperation;
@@ -10,10 +10,9 @@ use crate::{artifact_routes, group_routes, policy_listings, revision_routes};
 use access_lists::Perm;
 use doc_tree::{Kind, NoMemory, Steps, Text};
 use object_finder::Finder;
-use org_core::{
-    Context, Group, Lent, Need, Needs, PolicyRoute, Prepared, Refusal, Request, Stop, listed_need,
-};
-use route_table::Verb;
+use org_core::{Context, Group, Lent, Need, Needs, Prepared, listed_need};
+use org_requests::routes::PolicyRoute;
+use org_requests::{Refusal, Request, Stop, Verb};
 use std::alloc::Global;
 use std::sync::ledger::Ledger;
 

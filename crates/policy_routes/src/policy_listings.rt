@@ -1,28 +1,30 @@
 //! Policies and their revisions in replies.
 
 ghost use Rattle.std.specs.Prelude.{◌≡◌, IfOk, Ok};
+ghost use Rattle.doc_tree.specs.Text.{text_cmp};
 ghost use Rattle.doc_tree.specs.Tree.{doc_of};
-ghost use Rattle.shelves.specs.Shelves.{shelf_of, shelves_of, text_cmp};
+ghost use Rattle.shelves.specs.Shelves.{shelf_of, shelves_of};
 ghost use Rattle.shelves.specs.SortedMap.{map_of};
 ghost use Rattle.org_core.specs.Contexts.{seen};
-ghost use Rattle.org_core.specs.Outcomes.{Finds};
-ghost use Rattle.org_core.specs.Replies.{one_key};
+ghost use Rattle.org_core.specs.Outcomes.{IsAsDecided};
+ghost use Rattle.org_requests.specs.Replies.{one_key};
 ghost use Rattle.policy_routes.specs.Policies as spec;
 
-use crate::moving::{or_stop, prepared, told, unmoved};
+use crate::moving::prepared;
 use crate::trees::put;
 use doc_tree::{Fields, Kind, NoMemory, Text, Tree};
-use org_core::{Context, Move, Prepared, Reply, Stop, joined, key_of, org_uri, shown_key};
+use org_core::{Context, Move, Prepared, key_of, or_stop, prepared_showing, unmoved};
+use org_requests::{Reply, Stop, org_uri, shown_key};
 use org_shelves::{Policies, Revision, ShelfMove};
 use shelves::SortedMap;
 use std::alloc::Global;
 
 /// The policies are listed.
 pub(crate) fn list(alloc: Global, context: Context<'_>) -> Result<Prepared, Stop>
-    ensures { Finds result (spec.policies_listed (seen context.entry)).answer }
+    ensures { IsAsDecided result (spec.policies_listed (seen context.entry)).answer }
 {
     let tree = listing_tree(alloc, context.org, context.state.shelves().policies())?;
-    or_stop(told(alloc, tree))
+    or_stop(prepared_showing(alloc, tree))
 }
 
 fn listing_tree(alloc: Global, org: &Text, policies: &Policies) -> Result<Tree, NoMemory>
@@ -56,8 +58,8 @@ fn listed_tree(
 fn policy_path(alloc: Global, org: &Text, name: &Text) -> Result<Text, NoMemory>
     ensures { IfOk result (λ path. path ≡ spec.policy_path org.now name.now) }
 {
-    let front = joined(alloc, org_uri(alloc, org)?.as_str(), "/policies/")?;
-    joined(alloc, front.as_str(), name.as_str())
+    let front = Text::joined(alloc, org_uri(alloc, org)?.as_str(), "/policies/")?;
+    Text::joined(alloc, front.as_str(), name.as_str())
 }
 
 fn revisions_tree(alloc: Global, shelf: &SortedMap<Text, Revision>) -> Result<Tree, NoMemory>
@@ -72,7 +74,7 @@ fn revisions_tree(alloc: Global, shelf: &SortedMap<Text, Revision>) -> Result<Tr
 
 /// A policy is shown.
 pub(crate) fn show(alloc: Global, context: Context<'_>, policy: Text) -> Result<Prepared, Stop>
-    ensures { Finds result (spec.policy_shown (seen context.entry) policy).answer }
+    ensures { IsAsDecided result (spec.policy_shown (seen context.entry) policy).answer }
 {
     or_stop(unmoved(alloc, policy_reply(alloc, context, &policy)))
 }
@@ -96,7 +98,7 @@ fn found_tree(alloc: Global, context: Context<'_>, policy: &Text) -> Result<Tree
 
 /// A policy goes, with its revisions, its assignments and its list.
 pub(crate) fn remove(alloc: Global, context: Context<'_>, policy: Text) -> Result<Prepared, Stop>
-    ensures { Finds result (spec.policy_removed (seen context.entry) policy).answer }
+    ensures { IsAsDecided result (spec.policy_removed (seen context.entry) policy).answer }
 {
     let reply = policy_reply(alloc, context, &policy)?;
     let key = key_of(alloc, Kind::Policy, policy.as_str())?;

@@ -5,8 +5,8 @@ ghost use Rattle.doc_tree.specs.Name.{is_name as spec_is_name};
 ghost use Rattle.doc_tree.specs.Tree.{doc_of};
 ghost use Rattle.shelves.specs.Shelves.{has_shelf};
 ghost use Rattle.org_core.specs.Contexts.{seen};
-ghost use Rattle.org_core.specs.Outcomes.{Finds, Looked};
-ghost use Rattle.org_core.specs.Refusals.{Tells};
+ghost use Rattle.org_core.specs.Outcomes.{IsAsDecided, Looked};
+ghost use Rattle.org_requests.specs.Refusals.{Tells};
 ghost use Rattle.org_core.specs.declared.moves.Move.TheVariants as move;
 ghost use Rattle.org_shelves.specs.declared.shelf_moves.ShelfMove.TheVariants as shelf;
 ghost use Rattle.policy_routes.specs.Groups as groups;
@@ -15,17 +15,14 @@ ghost use Rattle.policy_routes.specs.Policies as spec;
 ghost use Rattle.policy_routes.specs.PolicyRules as rules;
 
 use crate::lock_bodies::{artifact_refusal, lock_in};
-use crate::moving::{followed, list_of_first, or_stop, unmoved};
+use crate::moving::{followed, list_of_first};
 use crate::operations::PolicyOperation;
 use access_lists::{Container, Perm};
 use doc_tree::{Kind, Name, NoMemory, Steps, Text, Tree, is_name};
-use org_core::{
-    Body, Context, Move, Moves, Need, Prepared, Refusal, Reply, Stop, absent, listed_need, made,
-    shown,
-};
+use org_core::{Context, Move, Moves, Need, Prepared, listed_need, or_stop, unmoved};
+use org_requests::{Body, Refusal, Reply, Stop, Verb, absent, made, shown};
 use org_shelves::{Revision, ShelfMove};
 use policy_locks::Lock;
-use route_table::Verb;
 use std::alloc::Global;
 use std::sync::ledger::Ledger;
 
@@ -129,7 +126,7 @@ pub(crate) fn show<L: Ledger>(
     revision: Text,
     steps: &mut Steps<L>,
 ) -> Result<Prepared, Stop>
-    ensures done { Finds result (spec.revision_shown (seen context.entry) policy revision).answer }
+    ensures done { IsAsDecided result (spec.revision_shown (seen context.entry) policy revision).answer }
     ensures looked { Looked result (spec.revision_shown (seen context.entry) policy revision).looks steps.old steps.new }
 {
     steps.tick();
@@ -154,7 +151,7 @@ pub(crate) fn add(
     policy: Text,
     lock: Lock,
 ) -> Result<Prepared, Stop>
-    ensures { Finds result (spec.revision_added (seen context.entry) policy lock).answer }
+    ensures { IsAsDecided result (spec.revision_added (seen context.entry) policy lock).answer }
 {
     match made(alloc, &lock.whole) {
         Ok(reply) => Ok(Prepared {

@@ -2,8 +2,8 @@
 //! expected were computed apart, from the rules.
 use demo_requests::{Counts, Demo};
 use doc_tree::json_text;
-use org_core::{Body, ObjectsRoute, Parameters, Place, Request, Route, SearchRoute};
-use route_table::Verb;
+use org_requests::routes::{ObjectsRoute, Route, SearchRoute};
+use org_requests::{Body, Parameters, Place, Request, Verb};
 use std::alloc::Global;
 use std::test::Fail;
 
@@ -99,7 +99,7 @@ fn body(alloc: Global, body: &Body) -> Result<String, Fail> {
 fn spelled(alloc: Global, request: &Request) -> Result<String, Fail> {
     let method = method(request.verb);
     let path = path(alloc, &request.place)?;
-    let query = query(alloc, &request.asked)?;
+    let query = query(alloc, &request.parameters)?;
     let body = body(alloc, &request.body)?;
     Ok(format!(in alloc; "{method} {path}{query}{body}")?)
 }

@@ -1,7 +1,7 @@
 //! The parts of a head: its target with the parameters, and what its headers say.
 use doc_tree::{NoMemory, Text, Texts};
 use http_routes::{HeaderValue, api_of, caller_of, lists_close, parameters_of, segments_of};
-use org_core::Parameters;
+use org_requests::Parameters;
 use std::alloc::Global;
 use std::test::Fail;
 

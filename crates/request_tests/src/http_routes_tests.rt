@@ -1,11 +1,11 @@
 //! Whole requests in words: where they go, what the table says of them, and their bodies.
 use doc_tree::NoMemory;
-use http_routes::{BodyForm, Head, HeaderValue, body_of};
-use org_core::{
-    AccessRoute, Body, CookbookRoute, DataRoute, ObjectsRoute, OrganisationRoute, Place,
-    PolicyRoute, Request, Route, SearchRoute,
+use http_routes::{BodyForm, Head, HeaderValue, Routes, body_of};
+use org_requests::routes::{
+    AccessRoute, CookbookRoute, DataRoute, ObjectsRoute, OrganisationRoute, PolicyRoute, Route,
+    SearchRoute,
 };
-use route_table::Routes;
+use org_requests::{Body, Place, Request};
 use std::alloc::Global;
 use std::test::Fail;
 
@@ -18,17 +18,17 @@ POST /organizations ["name"] => organisations has doc
 POST /organizations {"name":"acme" => organisations has bad
 POST /organizations => organisations has bad
 GET /organizations {"name":"acme"} => organisations has empty
-PUT /organizations {"name":"acme"} => organisations lacks empty
-post /organizations {"name":"acme"} => organisations lacks empty
+PUT /organizations {"name":"acme"} => no organisation lacks empty
+post /organizations {"name":"acme"} => no organisation lacks empty
 GET /organizations/acme => acme whole has empty
-DELETE /organizations/acme => acme whole lacks empty
+DELETE /organizations/acme => acme lacks empty
 POST /organizations/acme/nodes {} => acme nodes has doc
 GET /organizations/acme/%6eodes {} => acme nodes has empty
 GET /organizations/acme/roles => acme roles has empty
 GET /organizations/acme/environments => acme environments has empty
 POST /organizations/acme/clients { => acme clients has bad
 PUT /organizations/acme/nodes/web1 {} => acme nodes web1 has doc
-POST /organizations/acme/nodes/web1 {} => acme nodes web1 lacks empty
+POST /organizations/acme/nodes/web1 {} => acme lacks empty
 GET /organizations/acme/nodes/a%20b => acme nodes a b has empty
 GET /organizations/acme/roles/r => acme roles r has empty
 GET /organizations/acme/environments/e => acme environments e has empty
@@ -38,7 +38,7 @@ GET /organizations/acme/groups/g => acme group g has empty
 GET /organizations/acme/users => acme users has empty
 GET /organizations/acme/users/u => acme user u has empty
 GET /organizations/acme/containers => acme containers has empty
-PUT /organizations/acme/containers/c {} => acme container c lacks empty
+PUT /organizations/acme/containers/c {} => acme lacks empty
 GET /organizations/acme/data/b/_acl => acme list data b has empty
 GET /organizations/acme/policy_groups/g/_acl => acme list policy_groups g has empty
 PUT /organizations/acme/nodes/web/_acl/read {} => acme entry nodes web read has doc
@@ -173,12 +173,18 @@ fn place(place: &Place) -> (&str, Words<'_>) {
         Place::Organisations => ("organisations", ("", "", "", "")),
         Place::LeftOut => ("left out", ("", "", "", "")),
         Place::NoRoute => ("no route", ("", "", "", "")),
+        Place::NoMethod { org: Some(org) } => (org.as_str(), ("", "", "", "")),
+        Place::NoMethod { org: None } => ("no organisation", ("", "", "", "")),
         Place::NoMemory => ("no memory", ("", "", "", "")),
     }
 }
 
-fn method(has_method: bool) -> &'static str {
-    if has_method { "has" } else { "lacks" }
+// Whether the table of routes has the method there.
+fn method(place: &Place) -> &'static str {
+    match place {
+        Place::Of { org: _, route: _ } | Place::Organisations => "has",
+        Place::LeftOut | Place::NoRoute | Place::NoMethod { org: _ } | Place::NoMemory => "lacks",
+    }
 }
 
 fn body(body: &Body) -> &'static str {
@@ -206,13 +212,7 @@ fn add_words(told: &mut String, words: &[&str]) -> Result<(), NoMemory> {
 fn add_request(told: &mut String, request: &Request) -> Result<(), NoMemory> {
     let (org, (word, first, second, third)) = place(&request.place);
     add_words(told, &[org, word, first, second, third])?;
-    add_words(
-        told,
-        &[
-            method(request.place.has_method(request.verb)),
-            body(&request.body),
-        ],
-    )
+    add_words(told, &[method(&request.place), body(&request.body)])
 }
 
 fn use_up(told: &mut String, request: Request) -> Result<(), NoMemory> {

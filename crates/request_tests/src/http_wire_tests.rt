@@ -1,7 +1,7 @@
 //! What headers say of the connection, what a room holds, and the bytes of replies.
 use doc_tree::{Bytes, NoMemory};
 use http_wire::{Room, buffer_reply, read_message, reply_length, write_reply};
-use org_core::Reply;
+use org_requests::Reply;
 use outside_core::{Buffered, MemSink, MemSource};
 use std::alloc::Global;
 use std::test::Fail;

@@ -10,8 +10,8 @@ mod http_routes_tests;
 #[cfg(test)]
 mod http_wire_tests;
 #[cfg(test)]
-mod org_core_tests;
-#[cfg(test)]
 mod org_machine_tests;
 #[cfg(test)]
-mod route_table_tests;
+mod org_requests_tests;
+#[cfg(test)]
+mod router_tests;

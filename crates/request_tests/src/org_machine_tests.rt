@@ -2,18 +2,16 @@
 
 ghost use Rattle.std.specs.Prelude.{◌≡◌, ◌<◌, List, ℕ, codes, IfOk, Some};
 ghost use Rattle.org_core.specs.FullStates.{full_in, MeetsFileConditions};
-ghost use Rattle.org_core.specs.Requests.{org_of};
+ghost use Rattle.org_requests.specs.Requests.{org_of};
 ghost use Rattle.sandboxes.specs.Files.{holding_of};
 ghost use Rattle.sandboxes.specs.Sandboxes.{nothing};
 
 use doc_tree::{Kind, NoMemory, Steps, Text, read_json};
 use object_finder::ScanFinder;
-use org_core::{
-    Body, Collection, ObjectsRoute, OrgState, OrganisationRoute, Parameters, Place, Reply, Request,
-    Route, SearchRoute,
-};
+use org_core::OrgState;
 use org_machine::serve;
-use route_table::Verb;
+use org_requests::routes::{ObjectsRoute, OrganisationRoute, Route, SearchRoute};
+use org_requests::{Body, Collection, Parameters, Place, Reply, Request, Verb};
 use sandboxes::Files;
 use std::alloc::Global;
 use std::hash::RandomState;
@@ -77,7 +75,7 @@ fn request(alloc: Global, verb: Verb, words: &str, text: &str) -> Result<Request
         api: Some(0),
         verb,
         place: Place::Of { org, route },
-        asked: Parameters::new(alloc),
+        parameters: Parameters::new(alloc),
         body: body(alloc, text),
         close: false,
     })

@@ -14,7 +14,7 @@ use Rattle.resource_core.specs.Entries.{created}
 use Rattle.resource_core.specs.Graph.{IsOnCycle, OnCycles, are_within}
 use Rattle.resource_core.specs.Searching.{is_set}
 use Rattle.resource_core.proofs.GraphLemmas.{kept_on_cycles, kept_some}
-use Rattle.resource_core.specs.Paths.{is_normal}
+use Rattle.host_tree.specs.Paths.{is_normal}
 use Rattle.resource_core.specs.Plans.{Compiles, Planned, Refuses, all_resources, given, is_immediate, nexts, nexts_of, resolved}
 use Rattle.resource_core.specs.Titles.{HasTitles}
 use Rattle.resource_core.specs.Values.{first_bad, first_missing}

@@ -3,13 +3,13 @@ use Rattle.std.proofs.Common.{◌≡◌, ℕ, suc, Bool, true, false, cond, ◌|
 use Rattle.std.specs.List.{AllByRecursion, find, list_all, list_any}
 use Rattle.std.proofs.lemmas.Bool.{and_from}
 use Rattle.std.proofs.lemmas.List.Folds.{list_all-append}
+use Rattle.doc_tree.specs.Text.{text_of}
 use Rattle.doc_tree.specs.Doc.{Doc, null, boolean, whole, words, list, dict, docs_list, Pairs}
 use Rattle.doc_tree.specs.Part.{pair_at}
 use Rattle.resource_core.specs.Drafts.{Given, acting, attributed, creates, draft, drafts, placed, typed, unless, valued}
-use Rattle.resource_core.specs.Entries.{text_in}
 use Rattle.resource_core.specs.Links.{action_on, fired, heard, meant}
 use Rattle.resource_core.specs.Outcomes.{each_of, or_fault, then_do}
-use Rattle.resource_core.specs.Paths.{is_normal}
+use Rattle.host_tree.specs.Paths.{is_normal}
 use Rattle.resource_core.specs.Plans.{all_resources, given, has_action, has_own_actions, is_action_of, is_aimed, same_action}
 use Rattle.resource_core.specs.Links.{fires_of}
 use Rattle.resource_core.specs.Resources.{action_of, actions_in, are_known, path_of, resource, type_in}
@@ -51,7 +51,7 @@ named_action : (kind : ResourceType) (word : List ℕ) (a : Action) → action_i
 named_action kind word a h = find_member (λ action. bytes_eq (word_of action) word) (row kind).actions a h
 
 stated_action : (kind : ResourceType) (d : Doc) (a : Action) → action_of kind d ≡ Some a → is_action_of kind a ≡ true
-stated_action kind d a h = by_text (text_in d) h
+stated_action kind d a h = by_text (text_of d) h
   where
     by_text : (found : Option (List ℕ)) → option_and_then (action_in kind) found ≡ Some a → is_action_of kind a ≡ true
     by_text None k = cc k

@@ -12,7 +12,7 @@ use Rattle.resource_core.specs.Drafts.{Given, acting, attributed, creates, draft
 use Rattle.resource_core.specs.Entries.{created, created_by, entries_of, entry_of, is_to_create, stated_in}
 use Rattle.resource_core.specs.Links.{action_on, fired, fires_of, heard, meant}
 use Rattle.resource_core.specs.Outcomes.{each_of, or_fault, then_do}
-use Rattle.resource_core.specs.Paths.{is_normal}
+use Rattle.host_tree.specs.Paths.{is_normal}
 use Rattle.resource_core.specs.Plans.{all_resources, given, has_own_to, is_linked, needs_to}
 use Rattle.resource_core.specs.Plans as plans
 use Rattle.resource_core.specs.Resources.{actions_in, are_known, entries_at, name_at, path_of, resource, title, title_of, type_in, words_at}

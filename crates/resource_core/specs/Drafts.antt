@@ -5,7 +5,7 @@ use Rattle.doc_tree.specs.Doc.{Doc, Pairs}
 use Rattle.doc_tree.specs.Part.{pair_at}
 use Rattle.resource_core.specs.Entries.{is_to_create, stated_in}
 use Rattle.resource_core.specs.Outcomes.{or_fault, then_do}
-use Rattle.resource_core.specs.Paths.{is_normal}
+use Rattle.host_tree.specs.Paths.{is_normal}
 use Rattle.resource_core.specs.Resources.{actions_in, are_known, path_of, resource, title, title_of, type_in, words_at}
 use Rattle.resource_core.specs.Types.{is_create, properties}
 use Rattle.resource_core.specs.Values.{first_bad, first_missing}

@@ -1,6 +1,7 @@
 -- The entries of `notifies` and `subscribes`.
 use Rattle.std.specs.Prelude.{ℕ, Bool, true, false, ◌||◌, List, [], Option, Some, None, option_and_then, option_map, bytes_eq, codes, if◌then◌else◌, map}
 use Rattle.std.specs.List.{filter, filter_map, flat_map}
+use Rattle.doc_tree.specs.Text.{text_of}
 use Rattle.doc_tree.specs.Doc.{Doc, null, boolean, whole, words, list, dict, docs_list, Pairs, no_pairs, then_pair}
 use Rattle.doc_tree.specs.Part.{pair_at}
 use Rattle.resource_core.specs.Outcomes.{each_of}
@@ -9,15 +10,6 @@ use Rattle.resource_core.specs.declared.entries.StatedEntry.{StatedEntry}
 use Rattle.resource_core.specs.declared.entries.Timer.{Timer}
 use Rattle.resource_core.specs.declared.entries.Timer.TheVariants.{Delayed, Immediately}
 
--- the text that a document is
-abbrev pub text_in : Doc → Option (List ℕ)
-text_in null = None
-text_in (boolean b) = None
-text_in (whole z) = None
-text_in (words text) = Some text
-text_in (list ds) = None
-text_in (dict ps) = None
-
 -- the timer of this word
 abbrev pub timer_named : List ℕ → Option Timer
 timer_named word = if bytes_eq word (codes "delayed") then Some Delayed else if bytes_eq word (codes "immediately") then Some Immediately else None
@@ -25,7 +17,7 @@ timer_named word = if bytes_eq word (codes "delayed") then Some Delayed else if 
 -- the timer that an entry states: `delayed` where it states none
 abbrev pub timer_in : Option Doc → Option Timer
 timer_in None = Some Delayed
-timer_in (Some d) = option_and_then timer_named (text_in d)
+timer_in (Some d) = option_and_then timer_named (text_of d)
 
 -- a key that an entry may have
 abbrev pub is_entry_key : List ℕ → Bool
@@ -45,7 +37,7 @@ abbrev pub entry_in : Pairs → Option Entry
 entry_in ps =
     if are_entry_keys ps
     then option_and_then (λ action. option_and_then (λ resource. option_map (λ timer. entry action resource timer)
-    (timer_in (pair_at (codes "timer") ps))) (option_and_then text_in (pair_at (codes "resource") ps))) (option_and_then text_in (pair_at (codes "action") ps))
+    (timer_in (pair_at (codes "timer") ps))) (option_and_then text_of (pair_at (codes "resource") ps))) (option_and_then text_of (pair_at (codes "action") ps))
     else None
 
 -- the entry that a document is

@@ -1,6 +1,6 @@
 pub mod Outcomes
 pub mod Types
-pub mod Paths
+pub mod Modes
 pub mod Entries
 pub mod Templates
 pub mod Values

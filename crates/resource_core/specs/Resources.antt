@@ -1,10 +1,11 @@
 -- A resource, by what its pairs state.
 use Rattle.std.specs.Prelude.{ℕ, Bool, true, false, List, [], ◌∷◌, ◌++◌, take, Option, Some, None, option_and_then, option_map, unwrap_or, codes, if◌then◌else◌}
+use Rattle.doc_tree.specs.Text.{text_of}
 use Rattle.doc_tree.specs.Doc.{Doc, null, boolean, whole, words, list, dict, docs_list, Pairs, no_pairs, then_pair}
 use Rattle.doc_tree.specs.Part.{pair_at}
-use Rattle.resource_core.specs.Entries.{entries_of, text_in}
+use Rattle.resource_core.specs.Entries.{entries_of}
 use Rattle.resource_core.specs.Outcomes.{each_of}
-use Rattle.resource_core.specs.Paths.{mode_of}
+use Rattle.resource_core.specs.Modes.{mode_of}
 use Rattle.resource_core.specs.Templates.{stated, words_of}
 use Rattle.resource_core.specs.Types.{action_in, is_known, row, type_named}
 use Rattle.resource_core.specs.Values.{truth_of}
@@ -23,11 +24,11 @@ title_of r = title r.kind r.name
 
 -- the type that pairs state
 abbrev pub type_in : Pairs → Option ResourceType
-type_in ps = option_and_then type_named (option_and_then text_in (pair_at (codes "type") ps))
+type_in ps = option_and_then type_named (option_and_then text_of (pair_at (codes "type") ps))
 
 -- the action of the type that a document names
 abbrev pub action_of : ResourceType → Doc → Option Action
-action_of kind d = option_and_then (action_in kind) (text_in d)
+action_of kind d = option_and_then (action_in kind) (text_of d)
 
 -- the actions that a document names: a text or a list of texts
 abbrev pub actions_of : ResourceType → Doc → Option (List Action)

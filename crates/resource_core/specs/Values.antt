@@ -4,7 +4,7 @@ use Rattle.std.specs.Option.{option_or}
 use Rattle.doc_tree.specs.Doc.{Doc, null, boolean, whole, words, list, dict, Pairs}
 use Rattle.doc_tree.specs.Part.{pair_at}
 use Rattle.resource_core.specs.Entries.{entries_of}
-use Rattle.resource_core.specs.Paths.{mode_of}
+use Rattle.resource_core.specs.Modes.{mode_of}
 use Rattle.resource_core.specs.Templates.{is_formed, missing_of, stated, stated_of}
 use Rattle.resource_core.specs.Types.{Property}
 use Rattle.resource_core.specs.declared.types.Form.{Form}

@@ -1,5 +1,5 @@
 //! The resources of recipes one by one, or the first fault among them.
-ghost use Rattle.std.specs.Prelude.{◌≡◌, ◌++◌, ◌∷◌, [], IfOk, OnOk, Some, length, map, option_copied};
+ghost use Rattle.std.specs.Prelude.{◌≡◌, ◌++◌, ◌∷◌, [], IfOk, OnOk, Some, map, option_copied};
 ghost use Rattle.doc_tree.specs.Doc.{pairs_of};
 ghost use Rattle.resource_core.specs.Drafts as spec;
 ghost use Rattle.resource_core.specs.Drafting.{KnowsTitles, given_by, given_with, made_by};
@@ -11,7 +11,6 @@ ghost use Rattle.std.specs.List.{list_any};
 
 use crate::entries::subscribes_to_create;
 use crate::fault::{CompileFault, bad_value};
-use crate::paths::Path;
 use crate::resources::{
     Actions, Resource, actions_in, are_known, path_of, stated_resource, title, type_in, words_at,
 };
@@ -19,6 +18,7 @@ use crate::types::{Action, ResourceType, common, row_of};
 use crate::values::{first_bad, first_missing};
 use attr_merge::Merged;
 use doc_tree::{Fields, NoMemory, Text, Texts};
+use host_tree::Path;
 use std::alloc::Global;
 use std::collections::{BTreeMap, BTreeSet};
 

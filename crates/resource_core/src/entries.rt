@@ -1,7 +1,8 @@
 //! The entries of `notifies` and `subscribes`.
-ghost use Rattle.std.specs.Prelude.{◌≡◌, IfOk, Some, is_some, map, option_map, option_copied, option_and_then, bytes_eq, codes, unwrap_or, []};
+ghost use Rattle.std.specs.Prelude.{◌≡◌, IfOk, Some, is_some, option_map, option_copied, option_and_then, codes, unwrap_or, []};
 ghost use Rattle.std.specs.List.{filter_map, list_any};
-ghost use Rattle.doc_tree.specs.Doc.{docs_of, pairs_of, words};
+ghost use Rattle.doc_tree.specs.Text.{text_of};
+ghost use Rattle.doc_tree.specs.Doc.{pairs_of};
 ghost use Rattle.doc_tree.specs.Part.{pair_at};
 ghost use Rattle.doc_tree.specs.Tree.{doc_of};
 ghost use Rattle.resource_core.specs.Entries as spec;
@@ -40,22 +41,12 @@ pub(crate) struct StatedEntry<'a> {
     pub(crate) timer: Timer,
 }
 
-/// The text that a tree is.
-pub(crate) fn text_in(tree: &Tree) -> Option<&Text>
-    ensures { option_copied result ≡ spec.text_in (doc_of tree.now) }
-{
-    match tree {
-        Tree::Words(text) => Some(text),
-        Tree::Null | Tree::Bool(_) | Tree::Whole(_) | Tree::List(_) | Tree::Dict(_) => None,
-    }
-}
-
 /// The text at a key.
 pub(crate) fn text_at<'a>(fields: &'a Fields, key: &str) -> Option<&'a Text>
-    ensures { option_copied result ≡ option_and_then spec.text_in (pair_at key.now (pairs_of fields.now)) }
+    ensures { option_copied result ≡ option_and_then text_of (pair_at key.now (pairs_of fields.now)) }
 {
     match fields.get(key) {
-        Some(tree) => text_in(tree),
+        Some(tree) => tree.text(),
         None => None,
     }
 }
@@ -77,7 +68,7 @@ fn timer_in(fields: &Fields) -> Option<Timer>
 {
     match fields.get("timer") {
         None => Some(Timer::Delayed),
-        Some(tree) => match text_in(tree) {
+        Some(tree) => match tree.text() {
             Some(word) => timer_named(word.as_str()),
             None => None,
         },

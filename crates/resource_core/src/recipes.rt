@@ -1,5 +1,5 @@
 //! The resources of recipes.
-ghost use Rattle.std.specs.Prelude.{◌≡◌, ◌↔◌, ◌++◌, IfOk, IsTrue, OnOk, map, is_some, option_map};
+ghost use Rattle.std.specs.Prelude.{◌≡◌, ◌↔◌, ◌++◌, IfOk, IsTrue, OnOk, map, is_some};
 ghost use Rattle.std.specs.List.{filter_map, list_all};
 ghost use Rattle.doc_tree.specs.Doc.{dict, pairs_of};
 ghost use Rattle.doc_tree.specs.Tree.{doc_of};

@@ -1,21 +1,21 @@
 //! Resources, and how one is made of what its fields state.
-ghost use Rattle.std.specs.Prelude.{◌≡◌, ◌∷◌, IfOk, Some, codes, option_map, option_and_then, take, unwrap_or, []};
+ghost use Rattle.std.specs.Prelude.{◌≡◌, ◌∷◌, IfOk, Some, codes, option_map, option_and_then, take, []};
 ghost use Rattle.doc_tree.specs.Doc.{pairs_of};
 ghost use Rattle.doc_tree.specs.Part.{pair_at};
 ghost use Rattle.doc_tree.specs.Tree.{doc_of};
 ghost use Rattle.resource_core.specs.Outcomes.{each_of};
-ghost use Rattle.resource_core.specs.Paths as paths;
+ghost use Rattle.resource_core.specs.Modes as modes;
 ghost use Rattle.resource_core.specs.Resources as spec;
 ghost use Rattle.resource_core.specs.Types as types;
 
-use crate::entries::{Entries, entries_at, text_at, text_in};
-use crate::modes::{Mode, mode_of};
-use crate::paths::Path;
+use crate::entries::{Entries, entries_at, text_at};
+use crate::modes::mode_of;
 use crate::templates::{Stated, stated_at};
 use crate::types::{Action, ResourceType, is_known, row_of, type_named};
 use crate::values::truth_at;
 use attr_merge::Merged;
 use doc_tree::{Fields, Listed, NoMemory, Text, Tree, Trees};
+use host_tree::{Mode, Path};
 use std::alloc::Global;
 
 /// Actions, in order.
@@ -142,7 +142,7 @@ fn each_action(
 fn action_of(tree: &Tree, kind: ResourceType) -> Option<Action>
     ensures { result ≡ spec.action_of kind (doc_of tree.now) }
 {
-    match text_in(tree) {
+    match tree.text() {
         Some(word) => kind.action_named(word.as_str()),
         None => None,
     }
@@ -200,7 +200,7 @@ pub(crate) fn path_of(
 }
 
 fn mode_at(fields: &Fields, key: &str) -> Option<Mode>
-    ensures { result ≡ option_and_then paths.mode_of (pair_at key.now (pairs_of fields.now)) }
+    ensures { result ≡ option_and_then modes.mode_of (pair_at key.now (pairs_of fields.now)) }
 {
     match fields.get(key) {
         Some(tree) => mode_of(tree),

@@ -1,5 +1,5 @@
 //! Texts with attributes in them: `#{node['a']['b']}` stands for the attribute at the path of these keys.
-ghost use Rattle.std.specs.Prelude.{◌≡◌, ◌<◌, [], ◌++◌, string_bytes, IfOk, OnOk, codes, length, option_and_then, option_copied, option_map};
+ghost use Rattle.std.specs.Prelude.{◌≡◌, ◌<◌, [], ◌++◌, string_bytes, IfOk, OnOk, length, option_copied, option_map};
 ghost use Rattle.std.specs.Fmt.{signed_decimal};
 ghost use Rattle.doc_tree.specs.Doc.{pairs_of};
 ghost use Rattle.doc_tree.specs.Part.{pair_at};

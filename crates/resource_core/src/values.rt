@@ -1,5 +1,5 @@
 //! The values of a resource's properties.
-ghost use Rattle.std.specs.Prelude.{◌≡◌, IfOk, map, unwrap_or, option_and_then, option_copied, false};
+ghost use Rattle.std.specs.Prelude.{◌≡◌, IfOk, map, unwrap_or, option_copied, false};
 ghost use Rattle.doc_tree.specs.Doc.{pairs_of};
 ghost use Rattle.doc_tree.specs.Part.{pair_at};
 ghost use Rattle.doc_tree.specs.Tree.{doc_of};

@@ -8,8 +8,8 @@ use Rattle.std.specs.FinMap as finite
 use Rattle.std.specs.FinMap.Entries.{put, by_order}
 use Rattle.std.specs.List.{AllByRecursion, IsDistinct, list_any}
 use Rattle.std.specs.Map.{lookup, keys_of}
+use Rattle.doc_tree.specs.Text.{text_cmp}
 use Rattle.indexmap.specs.IndexMap.{insert_entry}
-use Rattle.sandboxes.specs.Checksums.{text_cmp}
 use Rattle.sandboxes.proofs.SearchLemmas.{text_cmp_ties}
 
 -- what holds after a success, where the call succeeds

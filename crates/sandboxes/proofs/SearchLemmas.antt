@@ -11,7 +11,7 @@ use Rattle.std.specs.Result.{is_ok}
 use Rattle.std.proofs.lemmas.Bool.{cases_lt}
 use Rattle.std.proofs.lemmas.List.Sorted.{searchable_from_sorted}
 use Rattle.std.proofs.lemmas.Map.Keys.{Less-from_sorted}
-use Rattle.sandboxes.specs.Checksums.{text_cmp}
+use Rattle.doc_tree.specs.Text.{text_cmp}
 use Rattle.sandboxes.specs.Sums.{Sums, lists, IsRising}
 
 -- texts that tie are the same

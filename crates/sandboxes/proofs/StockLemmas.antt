@@ -6,8 +6,9 @@ use Rattle.std.specs.declared.cmp.Ordering.TheVariants.{Equal}
 use Rattle.std.specs.FinMap as finite
 use Rattle.std.specs.Map.{lookup}
 use Rattle.std.proofs.lemmas.List.Folds.{list_any_more}
+use Rattle.doc_tree.specs.Text.{text_cmp}
 use Rattle.sandboxes.specs.declared.stored.Stored.{Stored}
-use Rattle.sandboxes.specs.Checksums.{text_cmp, checksum_of}
+use Rattle.sandboxes.specs.Checksums.{checksum_of}
 use Rattle.sandboxes.specs.Sums.{Sums, lists}
 use Rattle.sandboxes.specs.Sandboxes.{Stock, AreNamed, marked, with_committed, without}
 use Rattle.sandboxes.proofs.SearchLemmas.{text_cmp_ties}

@@ -22,7 +22,3 @@ checksum_in text = if is_checksum text then Some text else None
 -- the checksum of a file: the text of its MD5
 unfoldable pub checksum_of : List ℕ → List ℕ
 checksum_of bytes = encode_lower (md5 bytes)
-
--- checksums, and names of organisations, are in the order of their bytes
-abbrev pub text_cmp : List ℕ → List ℕ → Ordering
-text_cmp = slice_cmp nat_cmp

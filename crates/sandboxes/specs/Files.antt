@@ -2,7 +2,7 @@
 use Rattle.std.specs.Prelude.{◌≡◌, ◌≢◌, ℕ, List, unwrap_or, refl}
 use Rattle.std.specs.Coded.{Coded, code_by, coded×, coded_ℕ}
 use Rattle.std.specs.FinMap as finite
-use Rattle.sandboxes.specs.Checksums.{text_cmp}
+use Rattle.doc_tree.specs.Text.{text_cmp}
 use Rattle.sandboxes.specs.Sandboxes.{Holding, nothing, holding_code}
 
 -- what is kept for one organisation: what it holds, and how many more files, and how many more sandboxes, fit without memory

@@ -4,10 +4,11 @@ use Rattle.std.specs.Coded.{Coded, code_by, coded×, coded_ℕ, coded_list, code
 use Rattle.std.specs.FinMap as finite
 use Rattle.std.specs.List.{list_any, filter}
 use Rattle.std.specs.Option.{ForSome}
+use Rattle.doc_tree.specs.Text.{text_cmp}
 use Rattle.sandboxes.specs.declared.fault.SandFault.{SandFault}
 use Rattle.sandboxes.specs.declared.fault.SandFault.TheVariants.{NoSandbox, DigestDiffers, CountAtEnd}
 use Rattle.sandboxes.specs.declared.stored.Stored.{Stored}
-use Rattle.sandboxes.specs.Checksums.{text_cmp, checksum_of}
+use Rattle.sandboxes.specs.Checksums.{checksum_of}
 use Rattle.sandboxes.specs.Sums.{Sums, lists}
 
 -- files by their checksums

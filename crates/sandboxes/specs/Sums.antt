@@ -2,7 +2,7 @@
 use Rattle.std.specs.Prelude.{ℕ, Bool, List, bytes_eq}
 use Rattle.std.specs.List.{list_any}
 use Rattle.std.specs.List.Sorted.{IsStrictlySortedBy}
-use Rattle.sandboxes.specs.Checksums.{text_cmp}
+use Rattle.doc_tree.specs.Text.{text_cmp}
 
 -- checksums
 abbrev pub Sums : Type 0

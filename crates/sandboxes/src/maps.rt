@@ -1,8 +1,8 @@
 //! Maps that are written one entry at a time.
 ghost use Rattle.std.specs.Prelude.{◌≡◌, ◌+◌, ◌<◌, ◌≤◌, OnOk};
 ghost use Rattle.std.specs.FinMap as finite;
+ghost use Rattle.doc_tree.specs.Text.{text_cmp};
 ghost use Rattle.indexmap.specs.IndexMap.{spare, insert_entry};
-ghost use Rattle.sandboxes.specs.Checksums.{text_cmp};
 
 use crate::checksum::Checksum;
 use doc_tree::NoMemory;

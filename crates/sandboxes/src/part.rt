@@ -39,7 +39,7 @@ impl Model for Part {
     ghost use Rattle.std.specs.FinMap as finite;
     ghost use Rattle.indexmap.specs.IndexMap.{spare};
     ghost use Rattle.sandboxes.specs.Room.{smaller};
-    ghost use Rattle.sandboxes.specs.Checksums.{text_cmp};
+    ghost use Rattle.doc_tree.specs.Text.{text_cmp};
     ghost use Rattle.sandboxes.specs.Sandboxes.{AreNamed};
 
     ghost view = { λ p. record {

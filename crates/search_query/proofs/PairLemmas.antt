@@ -19,7 +19,7 @@ pair_same_on Less x y first is = cc
 pair_same_on Equal x y first is = ap₂ pair (texts_same x.field y.field (ap is_eq first)) (texts_same x.value y.value is)
 pair_same_on Greater x y first is = cc
 
-pair_same : (x y : Pair) → same_pair x y ≡ true → x ≡ y
+pub pair_same : (x y : Pair) → same_pair x y ≡ true → x ≡ y
 pair_same x y is = pair_same_on (slice_cmp nat_cmp x.field y.field) x y refl is
 
 -- a test that is repeated

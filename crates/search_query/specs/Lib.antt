@@ -2,3 +2,8 @@ pub mod Pair
 pub mod Matching
 pub mod Walk
 pub mod Pairs
+pub mod Outcomes
+pub mod Parts
+pub mod Partial
+pub mod Pages
+pub mod Laws

@@ -1,8 +1,8 @@
 -- What a search does, from what each call of it gave.
 use Rattle.std.proofs.Common.{◌≡◌, ℕ, List, filter, ◌∙◌}
 use Rattle.object_finder.specs.Indexes.{index_of}
-use Rattle.search_scan.specs.Found.{found_in}
-use Rattle.search_scan.specs.declared.indexes.Index.{Index}
+use Rattle.object_finder.specs.Found.{found_in}
+use Rattle.object_finder.specs.declared.indexes.Index.{Index}
 use Rattle.org_core.specs.Contexts.{Context}
 use Rattle.org_core.specs.States.{objects_of}
 use Rattle.search_routes.specs.declared.operations.Search.{Search}

@@ -1,6 +1,6 @@
 pub mod SearchLemmas
 pub mod PlainLemmas
+pub mod LawfulLemmas
 pub mod ReadingLemmas
 pub mod WordLemmas
-pub mod ListingLemmas
 pub mod FindingLemmas

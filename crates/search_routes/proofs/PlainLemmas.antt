@@ -2,19 +2,19 @@
 use Rattle.std.proofs.Common.{ℕ, List, codes, Option, Some, None, unwrap_or, Result, Ok, Err}
 use Rattle.doc_tree.specs.Doc.{Doc}
 use Rattle.query_text.specs.Query.{Ors}
-use Rattle.route_table.specs.declared.verbs.Verb.{Verb}
-use Rattle.route_table.specs.declared.verbs.Verb.TheVariants.{Get, Post, Put, Delete, Other}
-use Rattle.search_rows.specs.Partial.{Wanted, partial_of, then_do}
+use Rattle.org_requests.specs.declared.verbs.Verb.{Verb}
+use Rattle.org_requests.specs.declared.verbs.Verb.TheVariants.{Get, Post, Put, Delete, Other}
+use Rattle.search_query.specs.Partial.{Wanted, partial_of, then_do}
 use Rattle.org_core.proofs.PlainLemmas.{absent_plain, document_plain}
-use Rattle.org_core.specs.Bodies.{document_in}
+use Rattle.org_requests.specs.Documents.{document_in}
 use Rattle.org_core.specs.Contexts.{Context}
-use Rattle.org_core.specs.Parameters.{asked_for, or_bad_parameter}
+use Rattle.org_requests.specs.Parameters.{asked_for, or_bad_parameter}
 use Rattle.org_core.specs.Plain.{NeverForbids, RefusesPlainly}
-use Rattle.org_core.specs.declared.refusals.Refusal.{Refusal}
-use Rattle.org_core.specs.declared.requests.Body.{Body}
-use Rattle.org_core.specs.declared.requests.Parameter.{Parameter}
-use Rattle.org_core.specs.declared.routes.SearchRoute.{SearchRoute}
-use Rattle.org_core.specs.declared.routes.SearchRoute.TheVariants.{Indexes, Index}
+use Rattle.org_requests.specs.declared.refusals.Refusal.{Refusal}
+use Rattle.org_requests.specs.declared.requests.Body.{Body}
+use Rattle.org_requests.specs.declared.requests.Parameter.{Parameter}
+use Rattle.org_requests.specs.Routes.{SearchRoute}
+use Rattle.org_requests.specs.declared.routes.SearchRouteOf.TheVariants.{Indexes, Index}
 use Rattle.search_routes.specs.declared.operations.Asked.{Asked}
 use Rattle.search_routes.specs.declared.operations.SearchOperation.{SearchOperation}
 use Rattle.search_routes.specs.declared.operations.SearchOperation.TheVariants as operation
@@ -86,7 +86,7 @@ does_plain context (operation.Find search) = tt
 
 pub searches_never_forbid : NeverForbids search_rules
 searches_never_forbid = record {
-  operation = λ context route request. operation_plain route request.verb request.asked request.body;
+  operation = λ context route request. operation_plain route request.verb request.parameters request.body;
   own_refusal = λ context operation. tt;
   does = does_plain;
 }

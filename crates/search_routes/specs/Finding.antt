@@ -3,20 +3,19 @@ use Rattle.std.specs.Prelude.{ℕ, Bool, false, not, List, [], ◌∷◌, ◌++�
 use Rattle.access_lists.specs.declared.perm.Perm.TheVariants as permission
 use Rattle.doc_tree.specs.Doc.{Doc, null}
 use Rattle.doc_tree.specs.declared.kind.Kind.TheVariants as kinds
-use Rattle.object_finder.specs.Indexes.{index_of}
+use Rattle.object_finder.specs.Found.{found_in}
+use Rattle.object_finder.specs.Indexes.{index_of, kind_of, names_of, object_at}
+use Rattle.object_finder.specs.declared.indexes.Index.{Index}
+use Rattle.object_finder.specs.declared.indexes.Index.TheVariants.{Nodes, Roles, Environments, Clients, Bag}
 use Rattle.object_store.specs.Items.{item_front}
 use Rattle.object_store.specs.Objects.{key}
 use Rattle.query_text.specs.Query.{Ors}
-use Rattle.search_rows.specs.Partial.{Wanted}
-use Rattle.search_rows.specs.Rows.{page_doc, partial_row, shown}
-use Rattle.search_scan.specs.Found.{found_in}
-use Rattle.search_scan.specs.Indexes.{kind_of, names_of, object_at}
-use Rattle.search_scan.specs.declared.indexes.Index.{Index}
-use Rattle.search_scan.specs.declared.indexes.Index.TheVariants.{Nodes, Roles, Environments, Clients, Bag}
+use Rattle.search_query.specs.Pages.{page_doc, shown}
+use Rattle.search_query.specs.Partial.{Wanted, partial_row}
 use Rattle.org_core.specs.Contexts.{Context}
 use Rattle.org_core.specs.Needs.{lacking}
 use Rattle.org_core.specs.Outcomes.{Decided, shows, does_by}
-use Rattle.org_core.specs.Replies.{org_uri}
+use Rattle.org_requests.specs.Replies.{org_uri}
 use Rattle.org_core.specs.States.{has_object, objects_of}
 use Rattle.org_core.specs.declared.needs.Need.{Need}
 use Rattle.org_core.specs.declared.needs.Need.TheVariants.{Listed}

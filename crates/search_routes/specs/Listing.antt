@@ -1,16 +1,13 @@
 -- The listing of the indexes.
-use Rattle.std.specs.Prelude.{ℕ, List, [], ◌∷◌, ◌++◌, codes}
-use Rattle.access_lists.specs.TextSets.{in_order}
+use Rattle.std.specs.Prelude.{ℕ, List, ◌++◌, codes}
+use Rattle.membership.specs.TextSets.{in_order}
 use Rattle.doc_tree.specs.declared.kind.Kind.TheVariants as kinds
+use Rattle.object_finder.specs.Indexes.{kinds_words}
 use Rattle.object_store.specs.Objects.{Objects, names_in}
 use Rattle.org_core.specs.Contexts.{Context}
 use Rattle.org_core.specs.Outcomes.{Decided, shows, tells}
-use Rattle.org_core.specs.Replies.{org_uri, paths_behind}
+use Rattle.org_requests.specs.Replies.{org_uri, paths_behind}
 use Rattle.org_core.specs.States.{objects_of}
-
--- the words of the indexes of the four kinds
-abbrev pub kinds_words : List (List ℕ)
-kinds_words = codes "client" ∷ codes "environment" ∷ codes "node" ∷ codes "role" ∷ []
 
 -- the words of all indexes, in the order of their bytes and each once: the names of the data bags, and those four
 abbrev pub index_words : Objects → List (List ℕ)

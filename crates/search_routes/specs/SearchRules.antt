@@ -1,18 +1,18 @@
 -- The rules of searches.
 use Rattle.std.specs.Prelude.{ℕ, Bool, false, List, [], Option, Some, None, Result, Ok, Err}
 use Rattle.object_finder.specs.Indexes.{index_of}
-use Rattle.route_table.specs.declared.verbs.Verb.{Verb}
-use Rattle.route_table.specs.declared.verbs.Verb.TheVariants.{Get, Post, Put, Delete, Other}
-use Rattle.org_core.specs.Bodies.{document_in}
+use Rattle.org_requests.specs.declared.verbs.Verb.{Verb}
+use Rattle.org_requests.specs.declared.verbs.Verb.TheVariants.{Get, Post, Put, Delete, Other}
+use Rattle.org_requests.specs.Documents.{document_in}
 use Rattle.org_core.specs.Contexts.{Context}
 use Rattle.org_core.specs.Outcomes.{Decided}
 use Rattle.org_core.specs.Rules.{Rules}
-use Rattle.org_core.specs.declared.refusals.Refusal.{Refusal}
-use Rattle.org_core.specs.declared.refusals.Refusal.TheVariants.{NotAllowed}
-use Rattle.org_core.specs.declared.requests.Body.{Body}
-use Rattle.org_core.specs.declared.requests.Parameter.{Parameter}
-use Rattle.org_core.specs.declared.routes.SearchRoute.{SearchRoute}
-use Rattle.org_core.specs.declared.routes.SearchRoute.TheVariants.{Indexes, Index}
+use Rattle.org_requests.specs.declared.refusals.Refusal.{Refusal}
+use Rattle.org_requests.specs.declared.refusals.Refusal.TheVariants.{NotAllowed}
+use Rattle.org_requests.specs.declared.requests.Body.{Body}
+use Rattle.org_requests.specs.declared.requests.Parameter.{Parameter}
+use Rattle.org_requests.specs.Routes.{SearchRoute}
+use Rattle.org_requests.specs.declared.routes.SearchRouteOf.TheVariants.{Indexes, Index}
 use Rattle.search_routes.specs.declared.operations.SearchOperation.{SearchOperation}
 use Rattle.search_routes.specs.declared.operations.SearchOperation.TheVariants as operation
 use Rattle.search_routes.specs.Finding.{lacks_index, search_done, searched}
@@ -58,7 +58,7 @@ search_does context (operation.Find search) = search_done context search
 -- the rules of these routes. Whoever the organisation knows may search: what isn't for the caller isn't found
 abbrev pub search_rules : Rules SearchRoute SearchOperation
 search_rules = record {
-  operation = λ context route request. search_asked route request.verb request.asked request.body;
+  operation = λ context route request. search_asked route request.verb request.parameters request.body;
   lacks = search_lacks;
   needs = λ context operation. [];
   own_refusal = λ context operation. None;

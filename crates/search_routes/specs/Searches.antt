@@ -3,12 +3,12 @@ use Rattle.std.specs.Prelude.{ℕ, List, cond, codes, nat_le, Option, Some, None
 use Rattle.doc_tree.specs.Doc.{Doc}
 use Rattle.doc_tree.specs.Name.{is_name}
 use Rattle.query_text.specs.Query.{Ors}
-use Rattle.search_rows.specs.Partial.{Wanted, partial_of, then_do}
-use Rattle.org_core.specs.Bodies.{absent}
-use Rattle.org_core.specs.Parameters.{asked_for, number_in, or_bad_parameter}
-use Rattle.org_core.specs.declared.refusals.Refusal.{Refusal}
-use Rattle.org_core.specs.declared.refusals.Refusal.TheVariants.{BadField, BadQuery, NotFound}
-use Rattle.org_core.specs.declared.requests.Parameter.{Parameter}
+use Rattle.search_query.specs.Partial.{Wanted, partial_of, then_do}
+use Rattle.org_requests.specs.Documents.{absent}
+use Rattle.org_requests.specs.Parameters.{asked_for, number_in, or_bad_parameter}
+use Rattle.org_requests.specs.declared.refusals.Refusal.{Refusal}
+use Rattle.org_requests.specs.declared.refusals.Refusal.TheVariants.{BadField, BadQuery, NotFound}
+use Rattle.org_requests.specs.declared.requests.Parameter.{Parameter}
 use Rattle.search_routes.specs.declared.operations.Asked.{Asked}
 use Rattle.search_routes.specs.declared.operations.SearchOperation.{SearchOperation}
 use Rattle.search_routes.specs.declared.operations.SearchOperation.TheVariants as operation

@@ -1,20 +1,20 @@
 //! What a request asks of an index.
 
-ghost use Rattle.std.specs.Prelude.{◌≡◌, IfOk, Ok, codes, option_map, unwrap_or};
+ghost use Rattle.std.specs.Prelude.{◌≡◌, IfOk, Ok, option_map};
 ghost use Rattle.doc_tree.specs.Tree.{doc_of};
-ghost use Rattle.org_core.specs.Bodies as bodies;
-ghost use Rattle.org_core.specs.Parameters.{asked_for as spec_asked_for, or_bad_parameter};
-ghost use Rattle.org_core.specs.Refusals.{Tells};
+ghost use Rattle.org_requests.specs.Documents as bodies;
+ghost use Rattle.org_requests.specs.Refusals.{Tells};
 ghost use Rattle.search_routes.specs.Readings.{read_as};
 ghost use Rattle.search_routes.specs.SearchRules as rules;
 ghost use Rattle.search_routes.specs.Searches as spec;
 
 use crate::operations::{Asked, Search, SearchOperation};
 use doc_tree::{Name, NoMemory, Text, Tree};
-use org_core::{Body, Parameter, Refusal, Stop, absent, asked_for, document_in, number_in};
+use org_requests::{
+    Body, Parameter, Refusal, Stop, Verb, absent, asked_for, document_in, number_in,
+};
 use query_text::{Query, QueryFault, read_query};
-use route_table::Verb;
-use search_rows::{Partial, PartialFault};
+use search_query::{Partial, PartialFault};
 use std::alloc::Global;
 
 /// What is asked of all indexes.

@@ -1,12 +1,11 @@
 //! What a search finds.
 
 ghost use Rattle.std.specs.Prelude.{◌≡◌, IfOk, Some, filter, length};
-ghost use Rattle.object_finder.specs.Indexes.{index_of as spec_index_of};
-ghost use Rattle.search_scan.specs.Found.{found_in};
-ghost use Rattle.search_scan.specs.Indexes.{names_of};
-ghost use Rattle.search_scan.specs.Looks.{Looked};
+ghost use Rattle.object_finder.specs.Found.{found_in};
+ghost use Rattle.object_finder.specs.Indexes.{index_of as spec_index_of, names_of};
+ghost use Rattle.object_finder.specs.Looks.{Looked};
 ghost use Rattle.org_core.specs.Contexts.{IsExactIn, seen};
-ghost use Rattle.org_core.specs.Outcomes.{Finds, with_search};
+ghost use Rattle.org_core.specs.Outcomes.{IsAsDecided, with_search};
 ghost use Rattle.org_core.specs.States.{objects_of};
 ghost use Rattle.search_routes.specs.Finding as spec;
 
@@ -14,10 +13,10 @@ use crate::operations::Search;
 use crate::rows::show_page;
 use access_lists::Perm;
 use doc_tree::{Kind, Name, NoMemory, Steps, Text, Texts};
-use object_finder::{Finder, Scope, index_of};
-use org_core::{Context, Need, Prepared, first_lacking, is_operator, listed_need};
+use object_finder::{Finder, Index, Scope, index_of};
+use org_core::{Context, Need, Prepared, first_lacking, listed_need};
+use org_requests::is_operator;
 use query_text::Query;
-use search_scan::Index;
 use std::alloc::Global;
 use std::sync::ledger::Ledger;
 
@@ -44,7 +43,7 @@ pub(crate) fn find<F: Finder, L: Ledger>(
     steps: &mut Steps<L>,
 ) -> Result<Prepared, NoMemory>
     requires { IsExactIn (F.held finder.now) (seen context) }
-    ensures done { IfOk result (λ p. Finds (Ok p) (spec.search_done (seen context.entry) search.now).answer) }
+    ensures done { IfOk result (λ p. IsAsDecided (Ok p) (spec.search_done (seen context.entry) search.now).answer) }
     ensures looked { Looked result (with_search (F.looks finder.now) (Some (spec.searched (seen context.entry) search.now)) (spec.search_done (seen context.entry) search.now).looks) steps.old steps.new }
 {
     let index = index_of(alloc, search.index.as_text())?;

@@ -9,6 +9,6 @@ mod operations;
 mod rows;
 mod searches;
 
-pub use laws::{searches_are_orderly, searches_keep_conditions, searches_never_shelve};
+pub use laws::searches_are_lawful;
 pub use operations::{Asked, Search, SearchOperation};
 pub use searches::Searches;

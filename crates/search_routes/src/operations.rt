@@ -3,7 +3,7 @@
 
 use doc_tree::Name;
 use query_text::Query;
-use search_rows::Partial;
+use search_query::Partial;
 
 /// Which objects are looked for, and which of them are shown.
 #[derive(Drop)]

@@ -4,19 +4,20 @@ ghost use Rattle.std.specs.Prelude.{◌≡◌, ◌+◌, IfOk, length, map, optio
 ghost use Rattle.doc_tree.specs.Doc.{null};
 ghost use Rattle.doc_tree.specs.Tree.{doc_of};
 ghost use Rattle.doc_tree.specs.Written.{text};
-ghost use Rattle.search_rows.specs.Rows.{partial_row};
-ghost use Rattle.search_scan.specs.Indexes.{kind_of, object_at};
-ghost use Rattle.search_scan.specs.Looks.{Looked};
+ghost use Rattle.object_finder.specs.Indexes.{kind_of, object_at};
+ghost use Rattle.object_finder.specs.Looks.{Looked};
+ghost use Rattle.search_query.specs.Partial.{partial_row};
 ghost use Rattle.org_core.specs.Contexts.{seen};
-ghost use Rattle.org_core.specs.Outcomes.{Finds};
+ghost use Rattle.org_core.specs.Outcomes.{IsAsDecided};
 ghost use Rattle.org_core.specs.States.{objects_of};
 ghost use Rattle.search_routes.specs.Finding as spec;
 
 use crate::operations::Search;
-use doc_tree::{Bytes, Kind, NoMemory, Steps, Text, Tree, json_text};
-use org_core::{Context, Moves, Prepared, Reply, joined, org_uri};
-use search_rows::{Partial, page_text, shown};
-use search_scan::Index;
+use doc_tree::{Bytes, NoMemory, Steps, Text, Tree, json_text};
+use object_finder::Index;
+use org_core::{Context, Moves, Prepared};
+use org_requests::{Reply, org_uri};
+use search_query::{Partial, page_text, shown};
 use std::alloc::Global;
 use std::sync::ledger::Ledger;
 
@@ -29,7 +30,7 @@ pub(crate) fn show_page<L: Ledger>(
     names: &[Text],
     steps: &mut Steps<L>,
 ) -> Result<Prepared, NoMemory>
-    ensures done { IfOk result (λ p. Finds (Ok p) (spec.shows_page (seen context.entry) index.now search.now names.now).answer) }
+    ensures done { IfOk result (λ p. IsAsDecided (Ok p) (spec.shows_page (seen context.entry) index.now search.now names.now).answer) }
     ensures looked { Looked result (spec.shows_page (seen context.entry) index.now search.now names.now).looks steps.old steps.new }
 {
     let (start, count) = (u64::from(search.asked.start), u64::from(search.asked.rows));
@@ -95,13 +96,7 @@ fn look_up<'c, L: Ledger>(
     ensures object { option_map (λ t. doc_of t.now) result ≡ object_at index.now (objects_of (seen context.entry).state) name.now }
     ensures looked { steps.new ≡ steps.old + 1 }
 {
-    match index {
-        Index::Nodes => context.state.look_up(Kind::Node, name, steps),
-        Index::Roles => context.state.look_up(Kind::Role, name, steps),
-        Index::Environments => context.state.look_up(Kind::Environment, name, steps),
-        Index::Clients => context.state.look_up(Kind::Client, name, steps),
-        Index::Bag(bag) => context.state.item(bag.as_str(), name, steps),
-    }
+    object_finder::look_up(context.state.objects(), index, name, steps)
 }
 
 // The text of the row that shows the whole object. One that was found is there.
@@ -137,8 +132,8 @@ fn path_of(alloc: Global, org: &Text, index: &Index, name: &str) -> Result<Text,
     ensures { IfOk result (λ path. path ≡ spec.path_of org.now index.now name.now) }
 {
     let org = org_uri(alloc, org)?;
-    let front = joined(alloc, org.as_str(), front_of(alloc, index)?.as_str())?;
-    joined(alloc, front.as_str(), name)
+    let front = Text::joined(alloc, org.as_str(), front_of(alloc, index)?.as_str())?;
+    Text::joined(alloc, front.as_str(), name)
 }
 
 fn front_of(alloc: Global, index: &Index) -> Result<Text, NoMemory>
@@ -150,8 +145,8 @@ fn front_of(alloc: Global, index: &Index) -> Result<Text, NoMemory>
         Index::Environments => Text::from_str(alloc, "/environments/"),
         Index::Clients => Text::from_str(alloc, "/clients/"),
         Index::Bag(bag) => {
-            let items = joined(alloc, bag.as_str(), "/")?;
-            joined(alloc, "/data/", items.as_str())
+            let items = Text::joined(alloc, bag.as_str(), "/")?;
+            Text::joined(alloc, "/data/", items.as_str())
         }
     }
 }

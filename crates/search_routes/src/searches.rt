@@ -4,7 +4,9 @@ use crate::operations::SearchOperation;
 use crate::{asking, finding, listing};
 use doc_tree::{NoMemory, Steps};
 use object_finder::Finder;
-use org_core::{Context, Group, Lent, Needs, Prepared, Refusal, Request, SearchRoute, Stop};
+use org_core::{Context, Group, Lent, Needs, Prepared};
+use org_requests::routes::SearchRoute;
+use org_requests::{Refusal, Request, Stop};
 use std::alloc::Global;
 use std::sync::ledger::Ledger;
 
@@ -34,7 +36,7 @@ impl Group for Searches {
         match route {
             SearchRoute::Indexes => asking::indexes_asked(verb),
             SearchRoute::Index(word) => {
-                asking::index_asked(alloc, word, verb, request.asked.as_slice(), body)
+                asking::index_asked(alloc, word, verb, request.parameters.as_slice(), body)
             }
         }
     }

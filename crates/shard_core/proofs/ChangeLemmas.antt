@@ -1,14 +1,9 @@
 -- What the calls of the index do to what is held.
-use Rattle.std.proofs.Common.{◌≡◌, ◌∙◌, ◌⊎◌, ◌↔◌, ◌&&◌, ◌||◌, ℕ, false, not, List, Some, IsTrue, bytes_eq, ap, inl, inr, refl, sym}
-use Rattle.std.specs.FinMap as finite
-use Rattle.std.proofs.lemmas.Bool.{false≢true}
+use Rattle.std.proofs.Common.{◌≡◌, ◌⊎◌, ◌↔◌, ◌&&◌, ◌||◌, ℕ, not, List, Some, IsTrue, bytes_eq, ap, inl, inr}
 use Rattle.object_finder.specs.declared.scopes.Scope.{Scope as Named}
-use Rattle.object_finder.specs.Exact.{IsExact}
 use Rattle.object_finder.specs.Held.{HasRoom, LosesRoom, in_place, is_at, without_object}
-use Rattle.object_finder.specs.Indexes.{index_of}
-use Rattle.object_store.specs.Objects.{Objects}
 use Rattle.search_index.proofs.CallerLemmas.{holds_object, listed_member}
-use Rattle.search_index.specs.Arena.{Contents, DropsObject, HasObject, Holds, IsEmpty, Member, ReplacesObject, SameObjects}
+use Rattle.search_index.specs.Arena.{Contents, DropsObject, IsEmpty, ReplacesObject, SameObjects}
 use Rattle.search_index.specs.Arena as arena
 use Rattle.search_index.specs.declared.scope.Scope.{Scope}
 use Rattle.search_query.specs.Pair.{Pair, lists}

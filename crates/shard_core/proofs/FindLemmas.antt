@@ -1,8 +1,8 @@
 -- What the index finds is what is found by a look at each object.
-use Rattle.std.proofs.Common.{◌≡◌, ◌∙◌, ◌↔◌, ◌&&◌, ◌||◌, ℕ, Bool, true, false, cond, List, [], ◌∷◌, Option, Some, None, IsTrue, arith, bytes_eq, is_some, option_map, unwrap_or, ap, inl, inr, refl, subst, sym, Result, Ok, Err, IfOk}
+use Rattle.std.proofs.Common.{◌≡◌, ◌∙◌, ◌↔◌, ◌&&◌, ◌||◌, ℕ, Bool, true, false, cond, List, [], ◌∷◌, Option, Some, None, IsTrue, arith, bytes_eq, is_some, option_map, unwrap_or, ap, refl, subst, sym, Result, Ok, Err, IfOk}
 use Rattle.std.specs.Cmp.Lexicographic.{slice_cmp}
 use Rattle.std.specs.FinMap as finite
-use Rattle.std.specs.List.{cons_option, filter, filter_map, list_any}
+use Rattle.std.specs.List.{cons_option, filter_map, list_any}
 use Rattle.std.specs.Ordering.{nat_cmp}
 use Rattle.std.proofs.lemmas.Bool.{false≢true}
 use Rattle.std.proofs.lemmas.List.Kept.{IsStrictlySortedBy-filter}
@@ -12,31 +12,31 @@ use Rattle.doc_tree.specs.Valid.{InOrder}
 use Rattle.doc_tree.specs.declared.kind.Kind.{Kind}
 use Rattle.doc_tree.specs.declared.kind.Kind.TheVariants as kind
 use Rattle.doc_tree.specs.declared.no_memory.NoMemory.{NoMemory}
+use Rattle.object_finder.proofs.LawLemmas.{meeting_told}
 use Rattle.object_finder.specs.Exact.{HoldsExactly, IsExact}
-use Rattle.object_finder.specs.Indexes.{found_by, index_of, is_plain, pairs_by}
+use Rattle.object_finder.specs.Found.{finds, found_in, is_found}
+use Rattle.object_finder.specs.Indexes.{found_by, index_of, is_plain, key_in, kind_of, names_of, object_at}
+use Rattle.object_finder.specs.Looks.{Looked}
+use Rattle.object_finder.specs.Meeting.{meets}
+use Rattle.object_finder.specs.declared.indexes.Index.{Index}
+use Rattle.object_finder.specs.declared.indexes.Index.TheVariants.{Nodes, Roles, Environments, Clients, Bag}
 use Rattle.object_store.proofs.ItemsLemmas.{names_item, names_no_item, rests-order}
 use Rattle.object_store.proofs.ListingLemmas.{same_in_order}
 use Rattle.object_store.proofs.NamesLemmas.{names_in-has, names_in-order}
-use Rattle.object_store.specs.Items.{behind_front, ids_in, item_front, item_name}
+use Rattle.object_store.specs.Items.{behind_front, item_front, item_name}
 use Rattle.object_store.specs.Keys.{key_cmp}
 use Rattle.object_store.specs.Objects.{Objects, names_in}
 use Rattle.query_text.specs.Query.{Ors}
 use Rattle.search_index.proofs.CallerLemmas.{listed_member}
-use Rattle.search_index.specs.Arena.{ArePairs, Contents, HasObject, Holds, Member}
+use Rattle.search_index.specs.Arena.{ArePairs, Contents, HasObject}
 use Rattle.search_index.specs.Names.{lists_name}
 use Rattle.search_index.specs.declared.scope.Scope.{Scope}
 use Rattle.search_query.specs.Matching.{Meets}
 use Rattle.search_query.specs.Pair.{Pair, lists}
 use Rattle.search_query.specs.Pairs.{pairs_of}
-use Rattle.search_scan.specs.Found.{finds, found_in, is_found}
-use Rattle.search_scan.specs.Indexes.{key_in, kind_of, names_of, object_at}
-use Rattle.search_scan.specs.Looks.{Looked}
-use Rattle.search_scan.specs.Meeting.{Decided, holds, meets, meets_or_not}
-use Rattle.search_scan.specs.declared.indexes.Index.{Index}
-use Rattle.search_scan.specs.declared.indexes.Index.TheVariants.{Nodes, Roles, Environments, Clients, Bag}
 use Rattle.shard_core.specs.Holding.{held_of, is_posted, is_there, nothing, scope_of}
 use Rattle.shard_core.proofs.HoldingLemmas.{posted_told, there_told}
-use Rattle.shard_core.proofs.SlotLemmas.{any_filtered, itself_told, never_told, no, one_test}
+use Rattle.shard_core.proofs.SlotLemmas.{any_filtered, itself_told, never_told, one_test}
 
 -- ---- the names of an index
 
@@ -85,13 +85,6 @@ found_has index query objects name =
 lists_as_bytes : (names : List (List ℕ)) (name : List ℕ) → list_any (bytes_eq name) names ≡ lists_name names name
 lists_as_bytes [] name = refl
 lists_as_bytes (x ∷ names) name = λ i. sym (eq_by_cmp-text name x) i || lists_as_bytes names name i
-
-decided_told : {P : Type 0} (d : Decided P) → IsTrue (holds d) ↔ P
-decided_told (inl p) = (λ is. p, λ p. refl)
-decided_told (inr not) = (λ is. no is, λ p. absurd (not p))
-
-meeting_told : (query : Ors) (pairs : List Pair) → IsTrue (meets query pairs) ↔ Meets query pairs
-meeting_told query pairs = decided_told (meets_or_not query pairs)
 
 -- the names that a search of a scope gives: of each object that is there, it is told whether its pairs meet the query, and no others
 pub record Gives (c : Contents) (org index : List ℕ) (query : Ors) (names : List (List ℕ)) : Type 0 where

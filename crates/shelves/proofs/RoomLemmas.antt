@@ -2,9 +2,9 @@
 use Rattle.std.proofs.Common.{◌≡◌, ℕ, zero, suc, ◌+◌, ◌-◌, ◌<◌, ◌≤◌, List, [], ◌∷◌, ◌++◌, set, take, drop, length, get_or, refl, sym, ap, subst, ◌∙◌, arith}
 use Rattle.std.specs.FinMap.Entries as listed
 use Rattle.std.specs.List.{AllByRecursion}
+use Rattle.doc_tree.specs.Text.{text_cmp}
 use Rattle.shelves.specs.Places.{entries_without}
 use Rattle.shelves.specs.SortedMap.{Sorted}
-use Rattle.shelves.specs.Shelves.{text_cmp}
 use Rattle.shelves.specs.Rooms.{shelves_seen, HaveRoomEach, IsFresh, HaveRoom}
 use Rattle.shelves.proofs.ValueLemmas.{all_put, all_without, all_more, all_front, all_last}
 

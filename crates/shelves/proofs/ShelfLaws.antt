@@ -8,9 +8,10 @@ use Rattle.std.specs.FinMap as finite
 use Rattle.std.specs.FinMap.Entries.{find, is_sorted-where_key, find-where_key}
 use Rattle.std.specs.Ordering.{eq_by_cmp}
 use Rattle.std.proofs.lemmas.Option.{same_Some, none-some}
+use Rattle.doc_tree.specs.Text.{text_cmp}
 use Rattle.shelves.specs.Places.{entries_without}
 use Rattle.shelves.specs.SortedMap.{without_key}
-use Rattle.shelves.specs.Shelves.{text_cmp, Store, shelf_of, has_shelf, value_at, put, with_shelf, without, AreFilled}
+use Rattle.shelves.specs.Shelves.{Store, shelf_of, has_shelf, value_at, put, with_shelf, without, AreFilled}
 
 -- texts that tie are equal
 pub text_same : finite.IsAntisymmetric text_cmp

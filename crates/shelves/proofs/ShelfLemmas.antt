@@ -6,9 +6,10 @@ use Rattle.std.specs.Cmp.Lexicographic.{nat_list_cmp_total}
 use Rattle.std.specs.FinMap as finite
 use Rattle.std.specs.FinMap.Entries as listed
 use Rattle.std.proofs.lemmas.Option.{slice_get_read, none-some}
+use Rattle.doc_tree.specs.Text.{text_cmp}
 use Rattle.shelves.specs.Places.{IsInKeyOrder, entries_without, IsHeldAt, IsGapAt}
 use Rattle.shelves.specs.SortedMap.{Sorted, map_of, without_key}
-use Rattle.shelves.specs.Shelves.{text_cmp, Store, named_shelf, shelf_of, put, with_shelf, without, AreFilled}
+use Rattle.shelves.specs.Shelves.{Store, named_shelf, shelf_of, put, with_shelf, without, AreFilled}
 use Rattle.shelves.specs.Rooms.{shelves_seen, IsShelf, AreShelves}
 use Rattle.shelves.proofs.MapLemmas.{entries_of, get_of, map_put, map_none, map_without, none_of_map, order_put, order_without}
 use Rattle.shelves.proofs.ShelfLaws.{text_same, without_key-remove, remove_absent, get-insert_same}

@@ -2,8 +2,8 @@
 use Rattle.std.specs.Prelude.{◌≡◌, ◌≢◌, ℕ, ◌≤◌, List, [], length, map}
 use Rattle.std.specs.declared.cmp.Ordering.{Ordering}
 use Rattle.std.specs.List.{AllByRecursion}
+use Rattle.doc_tree.specs.Text.{text_cmp}
 use Rattle.shelves.specs.Places.{IsInKeyOrder}
-use Rattle.shelves.specs.Shelves.{text_cmp}
 use Rattle.shelves.specs.SortedMap.{Sorted}
 
 module _ {K V : Type 0} where

@@ -5,11 +5,8 @@ use Rattle.std.specs.Cmp.Lexicographic.{slice_cmp}
 use Rattle.std.specs.declared.cmp.Ordering.{Ordering}
 use Rattle.std.specs.FinMap as finite
 use Rattle.std.specs.Ordering.{nat_cmp}
+use Rattle.doc_tree.specs.Text.{text_cmp}
 use Rattle.shelves.specs.SortedMap.{without_key}
-
--- names are in the order of their bytes
-abbrev pub text_cmp : List ℕ → List ℕ → Ordering
-text_cmp = slice_cmp nat_cmp
 
 -- the shelves by their names, each a finite map
 abbrev pub Store : {K : Type 0} → (K → K → Ordering) → Type 0 → Type 0

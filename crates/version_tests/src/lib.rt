@@ -4,11 +4,13 @@
 #[cfg(test)]
 mod dep_solver_tests;
 #[cfg(test)]
-mod run_expansion_tests;
+mod run_lists_expansion_tests;
 #[cfg(test)]
-mod run_list_roots_tests;
+mod run_lists_items_tests;
 #[cfg(test)]
-mod run_list_tests;
+mod run_lists_reading_tests;
+#[cfg(test)]
+mod run_lists_roots_tests;
 #[cfg(test)]
 mod shelves_tests;
 #[cfg(test)]

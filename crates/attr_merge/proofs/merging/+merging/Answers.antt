@@ -15,7 +15,7 @@ use Rattle.attr_merge.specs.Pieces.{Piece}
 use Rattle.attr_merge.proofs.LeafLemmas.{ok-one, ok-both, scalar-effective, array-effective, dict-effective}
 use Rattle.attr_merge.proofs.ListLemmas.{map-self, head-split, rest-whole, none-long}
 use Rattle.attr_merge.proofs.OriginLemmas.{lookup-append-none, origin-below-root}
-use Rattle.attr_merge.proofs.SeenLemmas.{group-depth, values-children, effective-down, effective-same}
+use Rattle.attr_merge.proofs.SeenLemmas.{child-depth, values-children, effective-down, effective-same}
 use Rattle.attr_merge.proofs.StepLemmas.{merged-more, merged-same, entry-turn}
 use Rattle.attr_merge.proofs.merging.+merging.Goals as goal
 
@@ -24,11 +24,11 @@ merge_dicts-merge_parts-requires t c =
     let gives = c.into_iter-key-iterator.ensures.into_iter_gives in
     let far = rest_so_far (λ x. x) c.loop-key.yielded _ _ c.loop-key.yielded_by in
     let step = c.in-Some.ensures.steps in
-    let turn = entry-turn c.in_ok-groups.groups.entries c.loop-key.yielded c.next.new.self c.in-Some.key c.in-Some.group (sym gives.0 ∙ far ∙ (λ i. map-self c.loop-key.yielded i ++ step i)) gives.5 in
+    let turn = entry-turn c.in_ok-children.children.entries c.loop-key.yielded c.next.new.self c.in-Some.key c.in-Some.child (sym gives.0 ∙ far ∙ (λ i. map-self c.loop-key.yielded i ++ step i)) gives.5 in
     let cs = pieces_of c.args.parts.now in
-    let same : pieces_of c.deref.result.now ≡ children c.in-Some.key cs = ap pieces_of c.deref.ensures.value ∙ turn.1 ∙ c.in_ok-groups.ensures c.in-Some.key in
+    let same : pieces_of c.deref.result.now ≡ children c.in-Some.key cs = ap pieces_of c.deref.ensures.value ∙ turn.1 ∙ c.in_ok-children.ensures c.in-Some.key in
     let some : 0 < length c.deref.result.now = grind (arith, c.is_empty.ensures, c.if-not-is_empty.true, c.deref.ensures.len) in
-    let deeper = group-depth c.in-Some.key cs c.deref.result.now same some in
+    let deeper = child-depth c.in-Some.key cs c.deref.result.now same some in
     (omega (arith, deeper), (some, subst AreValues (sym same) (values-children c.in-Some.key cs)))
 
 pub merge_dicts-loop-key-preserved-then-not-is_empty : goal.merge_dicts-loop-key-preserved-then-not-is_empty
@@ -37,7 +37,7 @@ merge_dicts-loop-key-preserved-then-not-is_empty t c =
     let far = rest_so_far (λ x. x) c.loop-key.yielded _ _ c.loop-key.yielded_by in
     let step = c.in-Some.ensures.steps in
     let key = c.in-Some.key in
-    let turn = entry-turn c.in_ok-groups.groups.entries c.loop-key.yielded c.next.new.self key c.in-Some.group (sym gives.0 ∙ far ∙ (λ i. map-self c.loop-key.yielded i ++ step i)) gives.5 in
+    let turn = entry-turn c.in_ok-children.children.entries c.loop-key.yielded c.next.new.self key c.in-Some.child (sym gives.0 ∙ far ∙ (λ i. map-self c.loop-key.yielded i ++ step i)) gives.5 in
     let leaves = leaves_of c.loop-key.inner.leaves.items in
     let below = leaves_of c.in_ok-node.node.leaves.items in
     let d = doc_of c.in_ok-node.node.tree in
@@ -49,7 +49,7 @@ merge_dicts-loop-key-preserved-then-not-is_empty t c =
           effective-same p refl
           (ap (λ (fs : List (List ℕ × Doc)). option_and_then (at p) (pair_at q (pairs_of fs))) (sym c.in_ok-inner.ensures.fields))
           (ap (origin_at (q ∷ p)) (sym c.in_ok-inner.ensures.leaves))
-          (merged-more key c.in-Some.group c.loop-key.yielded c.loop-key.inner.fields leaves d below turn.0 c.loop-key.invariant.below
+          (merged-more key c.in-Some.child c.loop-key.yielded c.loop-key.inner.fields leaves d below turn.0 c.loop-key.invariant.below
           (λ path. effective-same path (ap pieces_of c.deref.ensures.value) refl refl (c.in_ok-node.ensures path)) q p);
     }
 
@@ -58,13 +58,13 @@ merge_dicts-loop-key-preserved t c =
     let gives = c.into_iter-key-iterator.ensures.into_iter_gives in
     let far = rest_so_far (λ x. x) c.loop-key.yielded _ _ c.loop-key.yielded_by in
     let step = c.in-Some.ensures.steps in
-    let turn = entry-turn c.in_ok-groups.groups.entries c.loop-key.yielded c.next.new.self c.in-Some.key c.in-Some.group (sym gives.0 ∙ far ∙ (λ i. map-self c.loop-key.yielded i ++ step i)) gives.5 in
-    let long : length c.in-Some.group.items ≡ 0 = grind (arith, c.is_empty.ensures, c.if-not-is_empty.false) in
+    let turn = entry-turn c.in_ok-children.children.entries c.loop-key.yielded c.next.new.self c.in-Some.key c.in-Some.child (sym gives.0 ∙ far ∙ (λ i. map-self c.loop-key.yielded i ++ step i)) gives.5 in
+    let long : length c.in-Some.child.items ≡ 0 = grind (arith, c.is_empty.ensures, c.if-not-is_empty.false) in
     record {
       can_next = tt;
       is_finite = tt;
       root = c.loop-key.invariant.root;
-      below = merged-same c.in-Some.key c.in-Some.group c.loop-key.yielded c.loop-key.inner.fields (leaves_of c.loop-key.inner.leaves.items) (none-long c.in-Some.group.items long) turn.0 c.loop-key.invariant.below;
+      below = merged-same c.in-Some.key c.in-Some.child c.loop-key.yielded c.loop-key.inner.fields (leaves_of c.loop-key.inner.leaves.items) (none-long c.in-Some.child.items long) turn.0 c.loop-key.invariant.below;
     }
 
 pub merge_dicts-returns-clause-below : goal.merge_dicts-returns-clause-below
@@ -74,7 +74,7 @@ merge_dicts-returns-clause-below t c = λ key path.
     let nothing = c.in-None.ensures.steps.0 in
     let all = sym gives.0 ∙ far ∙ (λ i. map-self c.loop-key.yielded i ++ nothing i) ∙ append-nil c.loop-key.yielded in
     effective-down key path (pieces_of c.args.parts.now) (option_and_then (at path) (pair_at key (pairs_of c.loop-key.inner.fields))) (origin_at (key ∷ path) (leaves_of c.loop-key.inner.leaves.items))
-    (effective-same path (ap (λ es. gathered_in es key) (sym all) ∙ c.in_ok-groups.ensures key) refl refl (c.loop-key.invariant.below key path))
+    (effective-same path (ap (λ es. gathered_in es key) (sym all) ∙ c.in_ok-children.ensures key) refl refl (c.loop-key.invariant.below key path))
 
 pub merge_parts-returns-in_ok-inner-in-Dict : goal.merge_parts-returns-in_ok-inner-in-Dict
 merge_parts-returns-in_ok-inner-in-Dict t c =

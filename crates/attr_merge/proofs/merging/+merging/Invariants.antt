@@ -14,7 +14,7 @@ decreases-merge_dicts l = 2 * pieces_depth (pieces_of l.parts.now)
 abbrev pub decreases-merge_parts : goal.decreases-merge_parts
 decreases-merge_parts l = 2 * pieces_depth (pieces_of l.parts.now) + 1
 
--- the groups so far are merged, and there is nothing at the other keys
+-- the children so far are merged, and there is nothing at the other keys
 abbrev pub invariant-merge_dicts-loop-key : goal.invariant-merge_dicts-loop-key
 invariant-merge_dicts-loop-key l = record {
   can_next : (goal.iterator-merge_dicts-loop-key).can_next l.key-iterator;

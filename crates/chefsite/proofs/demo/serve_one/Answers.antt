@@ -4,7 +4,7 @@ use Rattle.chefsite.proofs.demo.serve_one.Goals as goal
 
 pub returns : goal.returns
 returns g c = (
-  c.serve-reply.result,
-  c.serve-reply.ensures.served c.args.request (read_itself c.args.request),
-  counted_so c.serve-reply.result c.reply_length.result _ _ c.reply_length.ensures c.count.ensures.sums,
+  c.answer-reply.result,
+  c.answer-reply.ensures c.args.request (read_itself c.args.request),
+  counted_so c.answer-reply.result c.reply_length.result _ _ c.reply_length.ensures c.count.ensures.sums,
 )

@@ -2,7 +2,7 @@
 use Rattle.std.proofs.Common.{ℕ, List, ◌∙◌}
 use Rattle.std.proofs.lemmas.List.{drop_more}
 use Rattle.sandboxes.specs.Files.{holding_of}
-use Rattle.org_core.proofs.ListingLemmas.{next_in_order}
+use Rattle.org_requests.proofs.ListingLemmas.{next_in_order}
 use Rattle.cookbook_routes.specs.Sandboxes.{upload_doc}
 use Rattle.cookbook_routes.proofs.sandbox_routes.uploads_tree.Goals as goal
 

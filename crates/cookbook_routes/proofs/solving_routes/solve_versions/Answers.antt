@@ -1,13 +1,13 @@
 -- What was chosen under the rules of the environment is shown, or the refusal is told.
 use Rattle.std.proofs.Common.{List, Option, Result, Ok, Err, refl, sym, ap, subst, ◌∙◌}
-use Rattle.cookbook_editions.specs.Universes.{universe_of}
+use Rattle.org_shelves.specs.Universes.{universe_of}
 use Rattle.dep_solver.specs.declared.roots.Pin.{Pin}
 use Rattle.doc_tree.specs.Doc.{Doc}
 use Rattle.doc_tree.specs.declared.kind.Kind.TheVariants as kinds
 use Rattle.org_core.specs.Contexts.{seen}
-use Rattle.org_core.specs.Refusals.{Tells}
+use Rattle.org_requests.specs.Refusals.{Tells}
 use Rattle.org_core.specs.States.{cookbooks_of, object_in}
-use Rattle.org_core.specs.declared.refusals.Refusal.{Refusal}
+use Rattle.org_requests.specs.declared.refusals.Refusal.{Refusal}
 use Rattle.cookbook_routes.specs.Solving as spec
 use Rattle.cookbook_routes.proofs.SolvingLemmas.{shown_done, shown_looked, stopped_done, stopped_looked}
 use Rattle.cookbook_routes.proofs.solving_routes.solve_versions.Goals as goal

@@ -1,9 +1,9 @@
 -- The universe and the rules are those of the organisation and of the environment.
 use Rattle.std.proofs.Common.{List, Result, ap, subst, ◌∙◌}
-use Rattle.cookbook_editions.specs.Universes.{universe_of}
+use Rattle.org_shelves.specs.Universes.{universe_of}
 use Rattle.dep_solver.specs.declared.roots.Pin.{Pin}
-use Rattle.org_core.specs.Refusals.{Tells}
-use Rattle.org_core.specs.declared.refusals.Refusal.{Refusal}
+use Rattle.org_requests.specs.Refusals.{Tells}
+use Rattle.org_requests.specs.declared.refusals.Refusal.{Refusal}
 use Rattle.cookbook_routes.specs.Solving as spec
 use Rattle.cookbook_routes.proofs.solving_routes.versions_for.Goals as goal
 

@@ -1,5 +1,5 @@
 -- A fault is told by its field.
-use Rattle.cookbook_routes.proofs.MissingLemmas.{stop_tells}
+use Rattle.org_core.proofs.ManifestsLemmas.{stop_tells}
 use Rattle.cookbook_routes.proofs.version_routes.edition_of.Goals as goal
 
 pub returns-in-Err : goal.returns-in-Err

@@ -1,6 +1,6 @@
 -- Others are left beside one of several, and beside another.
 use Rattle.dep_solver.proofs.VersionLemmas.{versions_total, version_from_equal}
-use Rattle.cookbook_routes.proofs.ShelfLemmas.{more_seen, one_seen, none_seen}
+use Rattle.org_shelves.proofs.LeftLemmas.{more_seen, one_seen, none_seen}
 use Rattle.cookbook_routes.proofs.version_routes.keeps_others.Goals as goal
 
 pub returns-then-len-gt1 : goal.returns-then-len-gt1

@@ -1,7 +1,7 @@
 -- A cookbook that isn't there has no greatest version.
 use Rattle.std.proofs.Common.{ap, ◌∙◌}
 use Rattle.std.specs.Option.{option_copied}
-use Rattle.cookbook_routes.proofs.ShelfLemmas.{latest_seen}
+use Rattle.cookbook_routes.proofs.LatestLemmas.{latest_seen}
 use Rattle.cookbook_routes.proofs.version_routes.latest_of.Goals as goal
 
 pub returns-in_err-shelf : goal.returns-in_err-shelf

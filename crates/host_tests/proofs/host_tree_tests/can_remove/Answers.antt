@@ -1,4 +1,4 @@
-use Rattle.std.proofs.Common.{List, ℕ, ap, ◌∙◌}
+use Rattle.std.proofs.Common.{ap, ◌∙◌}
 use Rattle.host_tree.specs.Entries.{at}
 use Rattle.host_tree.proofs.EntryLemmas.{removable}
 use Rattle.host_tests.proofs.host_tree_tests.can_remove.Goals as goal

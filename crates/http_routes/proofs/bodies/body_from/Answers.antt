@@ -2,7 +2,7 @@ use Rattle.std.proofs.Common.{◌≡◌, Ok, sym, ap, subst}
 use Rattle.doc_tree.specs.Tree.{doc_of}
 use Rattle.doc_tree.specs.Read.{reads, Gives}
 use Rattle.doc_tree.proofs.Docs.{tree_of-doc_of}
-use Rattle.org_core.specs.declared.requests.Body.TheVariants.{Doc as Read}
+use Rattle.org_requests.specs.declared.requests.Body.TheVariants.{Doc as Read}
 use Rattle.http_routes.proofs.bodies.body_from.Goals as goal
 
 -- the tree that was read is that of the document that the bytes spell

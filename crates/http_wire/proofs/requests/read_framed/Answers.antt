@@ -6,7 +6,7 @@ use Rattle.http_wire.specs.Faults.{NoneBeginsIn}
 use Rattle.http_wire.specs.Message.{Message}
 use Rattle.http_wire.specs.Requests.{callers_in, versions_in, connections_in}
 use Rattle.http_wire.specs.Room.{stream}
-use Rattle.org_core.specs.declared.requests.Request.{Request}
+use Rattle.org_requests.specs.declared.requests.Request.{Request}
 use Rattle.http_wire.proofs.FaultLemmas.{OnReadFault-passed, OnNotAMessage-passed}
 use Rattle.http_wire.proofs.FrameLemmas.{framed_takes, framed_place, framed_cut, framed_none}
 use Rattle.http_wire.proofs.RoomLemmas.{prepend_known-append}

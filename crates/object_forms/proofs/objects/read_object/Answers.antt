@@ -1,7 +1,7 @@
 use Rattle.std.proofs.Common.{option_copied, sym, ◌∙◌}
 use Rattle.doc_tree.specs.Doc.{pairs_of}
 use Rattle.doc_tree.specs.Tree.{doc_of}
-use Rattle.object_forms.proofs.GroupLemmas.{named_group}
+use Rattle.object_forms.proofs.GroupBodiesLemmas.{named_group}
 use Rattle.object_forms.proofs.NamedLemmas.{named_object}
 use Rattle.object_forms.proofs.objects.read_object.Goals as goal
 

@@ -1,6 +1,6 @@
 -- What is served is permitted exactly, and a refusal changes nothing of what the finder holds.
 use Rattle.std.proofs.Common.{sym, ap, ◌∙◌}
-use Rattle.org_core.specs.declared.replies.Reply.{Reply}
+use Rattle.org_requests.specs.declared.replies.Reply.{Reply}
 use Rattle.org_core.specs.FullStates.{full_in}
 use Rattle.org_machine.specs.Marks.{mark_of, answer}
 use Rattle.org_machine.proofs.FindingLemmas.{held_stays, refused_moves}

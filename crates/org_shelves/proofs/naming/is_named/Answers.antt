@@ -1,6 +1,7 @@
 -- A file is named by a version, or else by an artifact.
 use Rattle.std.proofs.Common.{◌≡◌, ◌∙◌, ◌||◌, sym, ap}
-use Rattle.shelves.specs.Shelves.{shelves_of, text_cmp}
+use Rattle.doc_tree.specs.Text.{text_cmp}
+use Rattle.shelves.specs.Shelves.{shelves_of}
 use Rattle.version_rules.specs.Order.{version_cmp}
 use Rattle.org_shelves.proofs.NamedLemmas.{seen_names}
 use Rattle.org_shelves.specs.ShelfMoves.{store_names}

@@ -1,6 +1,6 @@
 use Rattle.std.proofs.Common.{ap, subst, ◌∙◌}
 use Rattle.dep_solver.specs.Refusals.{Tells}
-use Rattle.run_list_roots.specs.Asking.{names_in, pins_in}
+use Rattle.run_lists.specs.Asking.{names_in, pins_in}
 use Rattle.policy_locks.proofs.MakeLemmas.{best_of}
 use Rattle.policy_locks.proofs.making.best_versions.Goals as goal
 

@@ -2,7 +2,7 @@
 use Rattle.std.proofs.Common.{◌≡◌, ◌++◌, drop, option_map}
 use Rattle.std.specs.List.{find}
 use Rattle.policy_locks.specs.Making as spec
-use Rattle.run_list_roots.specs.Reading.{each_of}
+use Rattle.run_lists.specs.Reading.{each_of}
 use Rattle.policy_locks.proofs.making.locked.Given as goal
 
 abbrev pub invariant-loop-pin : goal.invariant-loop-pin

@@ -1,7 +1,7 @@
 use Rattle.std.proofs.Common.{arith, sym, ◌∙◌}
 use Rattle.doc_tree.specs.Tree.{pair_of}
 use Rattle.policy_locks.specs.Parts as spec
-use Rattle.run_list_roots.proofs.ReadingLemmas.{made_more}
+use Rattle.run_lists.proofs.EachLemmas.{made_more}
 use Rattle.policy_locks.proofs.parts.locks_of.Goals as goal
 
 pub loop-field-preserved : goal.loop-field-preserved

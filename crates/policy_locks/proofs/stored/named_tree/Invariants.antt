@@ -1,7 +1,7 @@
 -- With the lists that are left, what is made is what all the lists give.
 use Rattle.std.proofs.Common.{◌≡◌, [], map, drop}
 use Rattle.cookbook_meta.specs.Stored.{with_pairs}
-use Rattle.policy_locks.specs.Stored.{named_pair}
+use Rattle.run_lists.specs.Storing.{named_pair}
 use Rattle.policy_locks.proofs.stored.named_tree.Given as goal
 
 abbrev pub invariant-loop-named : goal.invariant-loop-named

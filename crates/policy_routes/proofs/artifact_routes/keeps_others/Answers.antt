@@ -1,7 +1,7 @@
 -- Others are left beside one of several, and beside another.
 use Rattle.std.specs.Cmp.Lexicographic.{nat_list_cmp_total}
 use Rattle.shelves.proofs.ShelfLaws.{text_same}
-use Rattle.cookbook_routes.proofs.ShelfLemmas.{more_seen, one_seen, none_seen}
+use Rattle.org_shelves.proofs.LeftLemmas.{more_seen, one_seen, none_seen}
 use Rattle.std.proofs.Common.{◌≡◌, ap, ◌∙◌}
 use Rattle.org_shelves.specs.Shelved.{Artifacts, Shelved}
 use Rattle.policy_routes.proofs.artifact_routes.keeps_others.Goals as goal

@@ -1,7 +1,7 @@
 -- Nobody has files yet.
 use Rattle.std.proofs.Common.{Option, ap, unwrap_or, ◌∙◌}
 use Rattle.std.specs.FinMap as finite
-use Rattle.sandboxes.specs.Checksums.{text_cmp}
+use Rattle.doc_tree.specs.Text.{text_cmp}
 use Rattle.sandboxes.specs.Files.{Kept, KeptByName, holding_of, none}
 use Rattle.request_tests.proofs.org_machine_tests.no_files.Goals as goal
 

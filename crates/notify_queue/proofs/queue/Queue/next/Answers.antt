@@ -1,7 +1,6 @@
 -- What contracts see, once a pair was taken, or where none waits.
-use Rattle.std.proofs.Common.{◌≡◌, ◌∙◌, ◌<◌, ◌*◌, ap, subst, sym, ℕ, Some, slice_get}
+use Rattle.std.proofs.Common.{◌∙◌, ◌<◌, ◌*◌, ap, subst, sym, Some, slice_get}
 use Rattle.notify_queue.proofs.KeptLemmas.{Rests, Takes, rests, takes}
-use Rattle.notify_queue.specs.Linked.{pair_at}
 use Rattle.notify_queue.specs.Queue.{IsWithin, Queued, next}
 use Rattle.notify_queue.specs.declared.pair.Pair.{Pair}
 use Rattle.notify_queue.proofs.queue.Queue.next.Goals as goal

@@ -1,5 +1,5 @@
 -- What contracts see, once a pair was queued.
-use Rattle.std.proofs.Common.{◌∙◌, ap, subst, sym, ℕ}
+use Rattle.std.proofs.Common.{◌∙◌, ap, subst, ℕ}
 use Rattle.notify_queue.proofs.KeptLemmas.{queue_view}
 use Rattle.notify_queue.specs.Linked.{IsLinked, with_place}
 use Rattle.notify_queue.specs.Queue.{queue}

@@ -1,7 +1,7 @@
 use Rattle.std.proofs.Common.{◌∙◌, ap, rules}
 use Rattle.std.proofs.lemmas.Map.Made.{map_same_pairs}
+use Rattle.membership.specs.MapValues.{map_values}
 use Rattle.access_lists.specs.Acls.{each_entry, without_actor}
-use Rattle.access_lists.specs.MapValues.{map_values}
 use Rattle.object_store.specs.Objects.{KeptLists}
 use Rattle.object_store.proofs.ListsLemmas.{seen-changed}
 use Rattle.object_store.proofs.lists.Lists.take_actor.Goals as goal

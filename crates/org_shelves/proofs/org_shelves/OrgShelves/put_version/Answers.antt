@@ -1,5 +1,6 @@
 use Rattle.std.proofs.Common.{ap}
-use Rattle.shelves.specs.Shelves.{shelves_of, text_cmp}
+use Rattle.doc_tree.specs.Text.{text_cmp}
+use Rattle.shelves.specs.Shelves.{shelves_of}
 use Rattle.shelves.specs.SortedMap.{map_of}
 use Rattle.version_rules.specs.Order.{version_cmp}
 use Rattle.org_shelves.specs.Shelved.{Cookbooks, Shelved, with_cookbooks}

@@ -1,7 +1,8 @@
 -- A group that is taken out is removed, since names that tie are one.
 use Rattle.std.proofs.Common.{ap}
+use Rattle.doc_tree.specs.Text.{text_cmp}
 use Rattle.shelves.proofs.ShelfLaws.{text_same}
-use Rattle.shelves.specs.Shelves.{shelves_of, text_cmp}
+use Rattle.shelves.specs.Shelves.{shelves_of}
 use Rattle.shelves.specs.SortedMap.{map_of}
 use Rattle.version_rules.specs.Order.{version_cmp}
 use Rattle.org_shelves.specs.Shelved.{PolicyGroups, Shelved, with_groups}

@@ -1,6 +1,6 @@
 use Rattle.std.proofs.Common.{◌≡◌, None, option_map, ◌∙◌, sym, ap, rules, arith}
 use Rattle.std.specs.FinMap as finite
-use Rattle.sandboxes.specs.Checksums.{text_cmp}
+use Rattle.doc_tree.specs.Text.{text_cmp}
 use Rattle.sandboxes.specs.Files.{Kept, none, kept_of, holding_of, spare_of}
 use Rattle.sandboxes.specs.Sandboxes.{nothing, missing, missing_from, committed}
 use Rattle.sandboxes.proofs.FilesLemmas.{kept_found, kept_absent, kept_written, others_written}

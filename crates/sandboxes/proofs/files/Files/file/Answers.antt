@@ -1,6 +1,6 @@
 use Rattle.std.proofs.Common.{◌≡◌, ◌∙◌, sym, ap}
 use Rattle.std.specs.FinMap as finite
-use Rattle.sandboxes.specs.Checksums.{text_cmp}
+use Rattle.doc_tree.specs.Text.{text_cmp}
 use Rattle.sandboxes.specs.Files.{Kept, none, kept_of}
 use Rattle.sandboxes.proofs.FilesLemmas.{kept_found, kept_absent}
 use Rattle.sandboxes.proofs.files.Files.file.Goals as goal

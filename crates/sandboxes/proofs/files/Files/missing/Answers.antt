@@ -1,7 +1,7 @@
 use Rattle.std.proofs.Common.{◌≡◌, Some, None, Err, IfOk, ◌∙◌, sym, ap, subst, refl}
 use Rattle.std.specs.FinMap as finite
+use Rattle.doc_tree.specs.Text.{text_cmp}
 use Rattle.sandboxes.specs.declared.fault.SandFault.TheVariants.{NoSandbox}
-use Rattle.sandboxes.specs.Checksums.{text_cmp}
 use Rattle.sandboxes.specs.Files.{Kept, none, kept_of}
 use Rattle.sandboxes.specs.Sandboxes.{missing_from}
 use Rattle.sandboxes.proofs.FilesLemmas.{kept_found, kept_absent}

@@ -3,9 +3,9 @@ use Rattle.std.proofs.lemmas.List.{take_all}
 use Rattle.sandboxes.proofs.SumsLemmas.{filtered_kept, filtered_dropped}
 use Rattle.std.proofs.lemmas.List.Kept.{IsStrictlySortedBy-filter}
 use Rattle.indexmap.specs.IndexMap.{get}
-use Rattle.sandboxes.specs.Checksums.{text_cmp}
 use Rattle.sandboxes.specs.Sums.{Sums, IsRising}
 use Rattle.std.specs.List.{filter}
+use Rattle.doc_tree.specs.Text.{text_cmp}
 use Rattle.sandboxes.proofs.sums.Sums.without.Goals as goal
 use Rattle.sandboxes.proofs.sums.Sums.without.Goals.{then-not-contains_key+in_ok-push, else-not-contains_key}
 

@@ -2,7 +2,8 @@
 use Rattle.std.proofs.Common.{ap, map, ◌∙◌}
 use Rattle.std.specs.Cmp.Lexicographic.{nat_list_cmp_total}
 use Rattle.std.specs.FinMap as finite
-use Rattle.shelves.specs.Shelves.{text_cmp, named_shelf}
+use Rattle.doc_tree.specs.Text.{text_cmp}
+use Rattle.shelves.specs.Shelves.{named_shelf}
 use Rattle.shelves.specs.Rooms.{shelves_seen}
 use Rattle.shelves.proofs.MapLemmas.{map_none}
 use Rattle.shelves.proofs.shelves.Shelves.none.Goals as goal

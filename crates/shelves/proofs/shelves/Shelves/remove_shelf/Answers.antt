@@ -1,8 +1,8 @@
 -- The shelf goes from where it stands.
 use Rattle.std.proofs.Common.{sym, subst, ◌∙◌, arith}
 use Rattle.std.specs.Cmp.Lexicographic.{nat_list_cmp_total}
+use Rattle.doc_tree.specs.Text.{text_cmp}
 use Rattle.shelves.specs.Places.{IsInKeyOrder}
-use Rattle.shelves.specs.Shelves.{text_cmp}
 use Rattle.shelves.proofs.PlaceLemmas.{held_in, gap_in}
 use Rattle.shelves.proofs.RoomLemmas.{room-without}
 use Rattle.shelves.proofs.ShelfLaws.{text_same, remove_absent}

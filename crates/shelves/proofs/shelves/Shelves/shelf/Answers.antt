@@ -1,8 +1,8 @@
 -- The shelf stands at the place that the search found.
 use Rattle.std.proofs.Common.{sym, subst}
 use Rattle.std.specs.Cmp.Lexicographic.{nat_list_cmp_total}
+use Rattle.doc_tree.specs.Text.{text_cmp}
 use Rattle.shelves.specs.Places.{IsInKeyOrder}
-use Rattle.shelves.specs.Shelves.{text_cmp}
 use Rattle.shelves.proofs.PlaceLemmas.{held_in, gap_in}
 use Rattle.shelves.proofs.ShelfLemmas.{names_kept, shelf_found, shelf_missing, filled-store}
 use Rattle.shelves.proofs.shelves.Shelves.shelf.Goals as goal

@@ -3,8 +3,8 @@ use Rattle.std.proofs.Common.{◌≢◌, ◌≤◌, ℕ, List, refl, sym, ap, su
 use mathlib.Core.Bool.{true≢false}
 use Rattle.std.specs.Cmp.Lexicographic.{nat_list_cmp_total}
 use Rattle.std.specs.FinMap as finite
+use Rattle.doc_tree.specs.Text.{text_cmp}
 use Rattle.shelves.specs.Places.{IsInKeyOrder}
-use Rattle.shelves.specs.Shelves.{text_cmp}
 use Rattle.shelves.specs.SortedMap.{Sorted, map_of}
 use Rattle.shelves.proofs.MapLemmas.{written_is}
 use Rattle.shelves.proofs.PlaceLemmas.{held_in, gap_in}

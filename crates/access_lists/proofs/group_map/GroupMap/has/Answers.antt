@@ -1,7 +1,0 @@
-use Rattle.std.proofs.Common.{ap, ◌∙◌}
-use Rattle.access_lists.specs.Rooms.{KeptGroups}
-use Rattle.access_lists.proofs.RoomLemmas.{has_found}
-use Rattle.access_lists.proofs.group_map.GroupMap.has.Goals as goal
-
-pub returns : goal.returns
-returns c = c.contains_key.ensures ∙ has_found c.self.inside.items.entries c.args.self.now.groups c.args.name.now (ap (λ (kept : KeptGroups). kept.groups) c.self.view_is)

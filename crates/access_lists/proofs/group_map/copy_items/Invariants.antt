@@ -1,6 +1,0 @@
-use Rattle.access_lists.specs.Rooms.{groups_seen}
-use Rattle.access_lists.proofs.CopyingLemmas.{Copying}
-use Rattle.access_lists.proofs.group_map.copy_items.Given as goal
-
-abbrev pub invariant-loop-name : goal.invariant-loop-name
-invariant-loop-name l = Copying l.fn.items.entries (groups_seen l.made.entries) l.name-iterator

@@ -1,5 +1,0 @@
-use Rattle.access_lists.proofs.ListsLemmas.{follows_lists, follows_row, takes_the_last}
-use Rattle.access_lists.proofs.laws.changes_follow_the_lists.Goals as goal
-
-pub returns : goal.returns
-returns c = record { organisation = follows_lists; members = follows_row; groups = takes_the_last }

@@ -1,5 +1,0 @@
-use Rattle.access_lists.proofs.NameSetLemmas.{seen-insert}
-use Rattle.access_lists.proofs.name_set.add.Goals as goal
-
-pub returns : goal.returns
-returns c = seen-insert c.args.items.now.keys c.insert.new.self.keys c.args.name c.in_ok-insert.ensures.updates.0

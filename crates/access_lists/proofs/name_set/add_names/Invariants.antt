@@ -1,8 +1,0 @@
-use Rattle.std.proofs.Common.{◌≡◌, take}
-use Rattle.std.specs.FinSet as set
-use Rattle.access_lists.specs.NameSets.{seen}
-use Rattle.access_lists.proofs.name_set.add_names.Given as goal
-
--- the set of the names so far
-abbrev pub invariant-loop-name : goal.invariant-loop-name
-invariant-loop-name l = seen l.items.keys ≡ set.from_list (take l.name-index l.names)

@@ -1,8 +1,0 @@
-use Rattle.access_lists.specs.NameSets.{seen}
-use Rattle.access_lists.proofs.NameSetLemmas.{seen-more}
-use Rattle.access_lists.proofs.name_set.add_texts.Goals as goal
-
-pub loop-name-preserved : goal.loop-name-preserved
-loop-name-preserved c =
-    seen-more _ c.loop-name.name-index c.name-item.result c.in_ok-copy.field-0 (seen c.loop-name.items.keys) _ c.loop-name-test.true c.name-item.is c.in_ok-copy.ensures
-    c.loop-name.invariant c.in_ok-add.ensures

@@ -1,9 +1,0 @@
-use Rattle.std.proofs.Common.{arith}
-use Rattle.doc_tree.specs.Doc.{docs_of}
-use Rattle.access_lists.specs.Forms.{texts_among}
-use Rattle.access_lists.proofs.FormsLemmas.{one_more}
-use Rattle.access_lists.proofs.reading.texts_among.Goals as goal
-
-pub loop-tree-preserved : goal.loop-tree-preserved
-loop-tree-preserved c =
-    one_more _ c.loop-tree.tree-index c.tree-item.result c.loop-tree.texts.items _ (texts_among (docs_of c.args.trees.now)) (omega arith) c.tree-item.is c.in_ok-push_text.ensures c.loop-tree.invariant

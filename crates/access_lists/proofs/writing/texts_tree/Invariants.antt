@@ -1,7 +1,0 @@
-use Rattle.std.proofs.Common.{◌≡◌, map, take}
-use Rattle.doc_tree.specs.Doc.{words}
-use Rattle.access_lists.proofs.writing.texts_tree.Given as goal
-
--- the texts so far
-abbrev pub invariant-loop-text : goal.invariant-loop-text
-invariant-loop-text l = l.trees ≡ map words (take l.text-index l.texts)

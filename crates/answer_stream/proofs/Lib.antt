@@ -1,0 +1,3 @@
+pub mod AnsweringLemmas
+pub mod TurnLemmas
+pub mod EndLemmas

@@ -1,6 +1,0 @@
--- Version and needs tell the release.
-use Rattle.cookbook_editions.proofs.UniverseLemmas.{release_is}
-use Rattle.cookbook_editions.proofs.universes.release_of.Goals as goal
-
-pub returns : goal.returns
-returns c = release_is c.in_ok-release.release c.args.version c.args.edition.now c.in_ok-release.ensures.version c.in_ok-release.ensures.needs

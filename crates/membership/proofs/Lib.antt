@@ -1,0 +1,10 @@
+pub mod SearchLemmas
+pub mod TextSetLemmas
+pub mod TextTreesLemmas
+pub mod NameSetLemmas
+pub mod MapValuesLemmas
+pub mod RoomLemmas
+pub mod MemberNamesLemmas
+pub mod LeavingLemmas
+pub mod CopyingLemmas
+pub mod ListsLemmas

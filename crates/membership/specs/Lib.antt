@@ -1,0 +1,13 @@
+pub mod TextSets
+pub mod TextTrees
+pub mod MapValues
+pub mod Members
+pub mod MemberNames
+pub mod Belonging
+pub mod Actors
+pub mod Lists
+pub mod Changes
+pub mod Rooms
+pub mod NameSets
+pub mod StartingGroups
+pub mod Laws

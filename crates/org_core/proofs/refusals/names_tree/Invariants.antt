@@ -1,7 +1,0 @@
-use Rattle.std.proofs.Common.{◌≡◌, map, take}
-use Rattle.doc_tree.specs.Doc.{words}
-use Rattle.org_core.proofs.refusals.names_tree.Given as goal
-
--- the names so far
-abbrev pub invariant-loop-name : goal.invariant-loop-name
-invariant-loop-name l = l.trees ≡ map words (take l.name-index l.names)

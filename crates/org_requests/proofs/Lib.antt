@@ -1,0 +1,4 @@
+pub mod ListingLemmas
+pub mod NumberLemmas
+pub mod LeftOutLemmas
+pub mod JoinLemmas

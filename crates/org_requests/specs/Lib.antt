@@ -1,0 +1,12 @@
+pub mod Verbs
+pub mod Collections
+pub mod Routes
+pub mod Patterns
+pub mod Table
+pub mod LeftOut
+pub mod Requests
+pub mod Replies
+pub mod Refusals
+pub mod Parameters
+pub mod Documents
+pub mod Heads

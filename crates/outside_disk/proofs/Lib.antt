@@ -1,3 +1,0 @@
-pub mod EntriesLemmas
-pub mod FrontLemmas
-pub mod ListingLemmas

@@ -1,4 +1,0 @@
-pub mod Disk
-pub mod SystemErrors
-pub mod Listing
-pub mod MemoryDisk

@@ -1,6 +1,0 @@
-use Rattle.std.proofs.Common.{◌≡◌, ◌++◌, drop, string_bytes}
-use Rattle.route_table.specs.Patterns.{joined}
-use Rattle.route_table.proofs.routes.joined.Given as goal
-
-abbrev pub invariant-loop-segment : goal.invariant-loop-segment
-invariant-loop-segment l = string_bytes l.path ++ joined (drop l.segment-index l.segments) ≡ joined l.segments

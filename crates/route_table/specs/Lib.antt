@@ -1,5 +1,0 @@
-pub mod Verbs
-pub mod Patterns
-pub mod Table
-pub mod LeftOut
-pub mod Routes

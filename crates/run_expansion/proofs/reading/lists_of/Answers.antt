@@ -1,9 +1,0 @@
-use Rattle.std.proofs.Common.{arith, sym, ◌∙◌}
-use Rattle.doc_tree.specs.Tree.{pair_of}
-use Rattle.run_expansion.specs.Reading as spec
-use Rattle.run_expansion.proofs.ReadingLemmas.{made_more}
-use Rattle.run_expansion.proofs.reading.lists_of.Goals as goal
-
-pub loop-field-preserved : goal.loop-field-preserved
-loop-field-preserved c =
-    made_more spec.env_run_list pair_of _ _ c.loop-field.field-index c.field-item.result _ _ c.in-Some.list (omega arith) c.field-item.is (sym c.in_ok-env_run_list.ensures ∙ c.in-Some.is) c.in_ok-push-in-Some.ensures.ok c.loop-field.invariant

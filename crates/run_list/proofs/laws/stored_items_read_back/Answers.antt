@@ -1,5 +1,0 @@
-use Rattle.run_list.proofs.StoredLemmas.{stored_reads_back}
-use Rattle.run_list.proofs.laws.stored_items_read_back.Goals as goal
-
-pub returns : goal.returns
-returns c = stored_reads_back

@@ -1,5 +1,0 @@
-use Rattle.run_list.proofs.SpellingLemmas.{before_bracket-strip}
-use Rattle.run_list.proofs.spelling.before_bracket.Goals as goal
-
-pub returns : goal.returns
-returns c = before_bracket-strip c.args.text.now c.strip_suffix.result c.strip_suffix.ensures.cases

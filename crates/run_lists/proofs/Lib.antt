@@ -1,0 +1,12 @@
+pub mod NameLemmas
+pub mod SpellingLemmas
+pub mod StoredLemmas
+pub mod EachLemmas
+pub mod AgainLemmas
+pub mod OrderLemmas
+pub mod FirstsLemmas
+pub mod AskingLemmas
+pub mod KeysLemmas
+pub mod VisitLemmas
+pub mod WalkLemmas
+pub mod WorkLemmas

@@ -1,0 +1,17 @@
+pub mod Names
+pub mod Items
+pub mod Spelling
+pub mod Stored
+pub mod Firsts
+pub mod Asking
+pub mod Roots
+pub mod Reading
+pub mod ByName
+pub mod Storing
+pub mod Roles
+pub mod RoleReading
+pub mod Visits
+pub mod Expansions
+pub mod Keys
+pub mod Walk
+pub mod Laws

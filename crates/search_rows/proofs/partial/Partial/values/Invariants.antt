@@ -1,8 +1,0 @@
--- All values are those so far and then those of the keys that are left.
-use Rattle.std.proofs.Common.{◌≡◌, ◌++◌, drop}
-use Rattle.doc_tree.specs.Tree.{doc_of}
-use Rattle.search_rows.specs.Rows as rows
-use Rattle.search_rows.proofs.partial.Partial.values.Given as goal
-
-abbrev pub invariant-loop-key : goal.invariant-loop-key
-invariant-loop-key l = rows.data_of l.kind l.key-items (doc_of l.object) ≡ l.values ++ rows.data_of l.kind (drop l.key-index l.key-items) (doc_of l.object)

@@ -1,5 +1,0 @@
-pub mod Indexes
-pub mod Meeting
-pub mod Found
-pub mod Looks
-pub mod Laws

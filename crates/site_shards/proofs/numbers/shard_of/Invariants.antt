@@ -1,5 +1,0 @@
-use Rattle.std.proofs.Common.{◌≡◌, ◌<◌, ◌%◌, sum, take}
-use Rattle.site_shards.proofs.numbers.shard_of.Given as goal
-
-abbrev pub invariant-loop-byte : goal.invariant-loop-byte
-invariant-loop-byte l = (l.sum ≡ sum (take l.byte-index l.name) % l.count) × (l.sum < l.count)

@@ -1,5 +1,0 @@
-pub mod Organisations
-pub mod Indexing
-pub mod Looking
-pub mod Shards
-pub mod Listing
