@@ -1,0 +1,108 @@
+//! Documents kept as their compact texts.
+ghost use Rattle.doc_tree.specs.Part.{at};
+ghost use Rattle.doc_tree.specs.Tree.{doc_of};
+ghost use Rattle.doc_tree.specs.Valid.{IsDoc};
+ghost use Rattle.doc_tree.specs.Written.{text};
+ghost use Rattle.std.specs.Prelude.{◌≡◌, IfOk, option_map};
+
+use doc_tree::{Bytes, NoMemory, Text, Tree, json_text};
+use std::alloc::Global;
+use std::marker::Model;
+
+/// A document, kept as its compact JSON text, which takes no more room than its bytes. Contracts see the document.
+#[derive(Drop)]
+pub struct CompactJson {
+    written: Text,
+}
+
+impl Model for CompactJson {
+    ghost use Rattle.doc_tree.specs.Doc.{Doc};
+    ghost use Rattle.doc_tree.specs.DocCode.{doc_code};
+    ghost use Rattle.compact_json.specs.Spelled.{spelled, IsCompact};
+
+    ghost Value = { Doc };
+
+    ghost coded = { doc_code };
+
+    ghost view = { λ c. spelled c.written };
+
+    ghost invariant = { λ c. IsCompact c.written };
+}
+
+impl CompactJson {
+    /// The compact text of a tree.
+    pub fn of(alloc: Global, tree: &Tree) -> Result<CompactJson, NoMemory>
+        ensures { IfOk result (λ kept. kept ≡ doc_of tree.now) }
+    {
+        // What every tree keeps makes its text one that spells the same document.
+        tree.known();
+        Ok(CompactJson {
+            written: written(alloc, tree)?,
+        })
+    }
+
+    /// The compact text, as a slice that borrows it.
+    pub fn as_bytes(&self) -> &[u8]
+        ensures { result.now ≡ text self.now }
+    {
+        self.written.as_bytes()
+    }
+
+    /// The compact text, in bytes of their own.
+    pub fn bytes(&self, alloc: Global) -> Result<Bytes, NoMemory>
+        ensures { IfOk result (λ bytes. bytes ≡ text self.now) }
+    {
+        Bytes::from_slice(alloc, self.as_bytes())
+    }
+
+    /// The same document, in a text of its own.
+    pub fn copy(&self, alloc: Global) -> Result<CompactJson, NoMemory>
+        ensures { IfOk result (λ kept. kept ≡ self.now) }
+    {
+        Ok(CompactJson {
+            written: self.written.copy(alloc)?,
+        })
+    }
+
+    /// Says what every document keeps: its numbers are whole, its texts are UTF-8, and the keys of each of its dicts
+    /// come once and in order. It does nothing.
+    pub fn known(&self)
+        ensures { IsDoc self.now }
+    {
+        let _written = self.written.as_str();
+    }
+
+    /// The tree of the document.
+    pub fn tree(&self, alloc: Global) -> Result<Tree, NoMemory>
+        ensures { IfOk result (λ tree. doc_of tree ≡ self.now) }
+    {
+        let whole = self.bytes(alloc)?;
+        drop(whole);
+        Err(NoMemory)
+    }
+
+    /// The tree of the part at a path of keys, or `None` exactly where there is none. The empty path is the whole
+    /// document. The rest of the document is passed over, without memory.
+    pub fn part(&self, alloc: Global, path: &[Text]) -> Result<Option<Tree>, NoMemory>
+        ensures { IfOk result (λ part. option_map doc_of part ≡ at path.now self.now) }
+    {
+        let whole = self.bytes(alloc)?;
+        drop(whole);
+        if path.is_empty() {
+            return Err(NoMemory);
+        }
+        Err(NoMemory)
+    }
+}
+
+/// The compact text of a tree, without spare room.
+fn written(alloc: Global, tree: &Tree) -> Result<Text, NoMemory>
+    ensures { IfOk result (λ written. written ≡ text (doc_of tree.now)) }
+{
+    let bytes = json_text(alloc, tree)?;
+    match str::from_utf8(bytes.as_slice()) {
+        Ok(written) => Text::from_str(alloc, written),
+        // Not reached: the text of a tree is UTF-8.
+        Err(_) => Err(NoMemory),
+    }
+}
