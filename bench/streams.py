@@ -62,8 +62,8 @@ class Run:
     """A run that is sent some requests at a time, and read before the next are sent: what is between two readings of its
     processor time is theirs alone, however long the requests before them took."""
 
-    def __init__(self, program):
-        self.process = subprocess.Popen([program, "answer"], stdin=subprocess.PIPE, stdout=subprocess.PIPE, env=TUNED)
+    def __init__(self, program, env=TUNED):
+        self.process = subprocess.Popen([program, "answer"], stdin=subprocess.PIPE, stdout=subprocess.PIPE, env=env)
 
     def reply(self):
         """The status of the next reply, and its body."""

@@ -1,6 +1,6 @@
 //! The route of the versions for a run list.
 
-ghost use Rattle.std.specs.Prelude.{◌≡◌, ◌↔◌, [], IfOk, OnOk, IsTrue, Ok, codes, length, option_and_then, option_map};
+ghost use Rattle.std.specs.Prelude.{◌≡◌, ◌↔◌, [], IfOk, OnOk, IsTrue, Ok, Some, codes, length, option_and_then, option_copied, option_map};
 ghost use Rattle.doc_tree.specs.Name.{is_name as spec_is_name};
 ghost use Rattle.doc_tree.specs.Part.{part_at, with_pair};
 ghost use Rattle.doc_tree.specs.Tree.{doc_of};
@@ -20,6 +20,7 @@ use crate::operations::CookbookOperation;
 use crate::universe_routes::look_at_each;
 use crate::version_routes::stored_at;
 use access_lists::Perm;
+use compact_json::CompactJson;
 use cookbook_meta::{MetaFault, read_needs};
 use dep_solver::{EnvRules, NoSolution, Pin, Pins, Roots, Solved, Universe, best_pins};
 use doc_tree::{Fields, Kind, NoMemory, Steps, Text, Tree, is_name};
@@ -138,10 +139,10 @@ fn versions_for(
     alloc: Global,
     context: Context<'_>,
     hint: Option<&Solved>,
-    environment: Option<&Tree>,
+    environment: Option<&CompactJson>,
     roots: &Roots,
 ) -> Result<Pins, Stop>
-    ensures { Tells result (spec.chosen (spec_universe_of (cookbooks_of (seen context.entry).state)) (spec.rules_of (option_map (λ t. doc_of t.now) environment.entry)) roots.now) }
+    ensures { Tells result (spec.chosen (spec_universe_of (cookbooks_of (seen context.entry).state)) (spec.rules_of (option_copied environment.entry)) roots.now) }
 {
     let rules = rules_of(alloc, environment)?;
     let universe = universe_of(alloc, context.state.cookbooks())?;
@@ -167,11 +168,23 @@ fn show_chosen<L: Ledger>(
 }
 
 // The rules of an environment, of which one that isn't there has none.
-fn rules_of(alloc: Global, environment: Option<&Tree>) -> Result<EnvRules, NoMemory>
-    ensures { IfOk result (λ rules. rules ≡ spec.rules_of (option_map (λ t. doc_of t.now) environment.entry)) }
+fn rules_of(alloc: Global, environment: Option<&CompactJson>) -> Result<EnvRules, NoMemory>
+    ensures { IfOk result (λ rules. rules ≡ spec.rules_of (option_copied environment.entry)) }
+{
+    match environment {
+        Some(object) => rules_in(alloc, &object.tree(alloc)?),
+        None => Ok(EnvRules {
+            rules: Constraints::new(alloc),
+        }),
+    }
+}
+
+// The rules of an environment that is there.
+fn rules_in(alloc: Global, environment: &Tree) -> Result<EnvRules, NoMemory>
+    ensures { IfOk result (λ rules. rules ≡ spec.rules_of (Some (doc_of environment.now))) }
 {
     let rules = match environment {
-        Some(Tree::Dict(fields)) => constraints_in(alloc, fields.get("cookbook_versions"))?,
+        Tree::Dict(fields) => constraints_in(alloc, fields.get("cookbook_versions"))?,
         _ => Constraints::new(alloc),
     };
     Ok(EnvRules { rules })

@@ -1,8 +1,8 @@
 //! The objects of an index that a query finds.
 ghost use Rattle.std.specs.Prelude.{◌≡◌, ◌+◌, IfOk, length};
 ghost use Rattle.std.specs.List.{filter};
-ghost use Rattle.doc_tree.specs.Tree.{doc_of};
 ghost use Rattle.doc_tree.specs.Valid.{InOrder};
+ghost use Rattle.search_query.specs.Pair.{IsRising, Pair, lists};
 ghost use Rattle.search_query.specs.Pairs.{pairs_of};
 ghost use Rattle.object_finder.specs.Found as spec;
 ghost use Rattle.object_finder.specs.Indexes.{names_of as names_in};
@@ -10,10 +10,11 @@ ghost use Rattle.object_finder.specs.Looks.{Looked};
 ghost use Rattle.object_finder.specs.Meeting.{meets};
 
 use crate::indexes::{Index, look_up, names_of};
-use doc_tree::{Kind, NoMemory, Steps, Texts, Tree};
+use compact_json::CompactJson;
+use doc_tree::{Kind, NoMemory, Steps, Texts};
 use object_store::Objects;
 use query_text::Query;
-use search_query::{matches, pairs};
+use search_query::{Pairs, matches, pairs};
 use std::alloc::Global;
 use std::sync::ledger::Ledger;
 
@@ -75,9 +76,24 @@ fn is_found<L: Ledger>(
     }
 }
 
-fn finds(alloc: Global, kind: Kind, query: &Query, object: &Tree) -> Result<bool, NoMemory>
-    ensures { IfOk result (λ found. found ≡ meets query.now (pairs_of kind (doc_of object.now))) }
+// The object's tree is read from its text, and goes before its pairs are compared.
+fn finds(
+    alloc: Global,
+    kind: Kind,
+    query: &Query,
+    object: &CompactJson,
+) -> Result<bool, NoMemory>
+    ensures { IfOk result (λ found. found ≡ meets query.now (pairs_of kind object.now)) }
 {
-    let pairs = pairs(alloc, kind, object)?;
+    let pairs = pairs_in(alloc, kind, object)?;
     Ok(matches(query, &pairs))
+}
+
+// The pairs of an object.
+fn pairs_in(alloc: Global, kind: Kind, object: &CompactJson) -> Result<Pairs, NoMemory>
+    ensures rising { IfOk result IsRising }
+    ensures members { IfOk result (λ found. (p : Pair) → lists found p ≡ lists (pairs_of kind object.now) p) }
+{
+    let tree = object.tree(alloc)?;
+    pairs(alloc, kind, &tree)
 }

@@ -1,10 +1,10 @@
 //! The indexes of an organisation by their words, the objects of each, and where the object of a key is found.
-ghost use Rattle.std.specs.Prelude.{◌≡◌, ◌+◌, IfOk, option_map};
-ghost use Rattle.doc_tree.specs.Tree.{doc_of};
+ghost use Rattle.std.specs.Prelude.{◌≡◌, ◌+◌, IfOk, option_copied, option_map};
 ghost use Rattle.doc_tree.specs.Valid.{InOrder};
 ghost use Rattle.object_finder.specs.Indexes as spec;
 
-use doc_tree::{Kind, NoMemory, Steps, Text, Texts, Tree};
+use compact_json::CompactJson;
+use doc_tree::{Kind, NoMemory, Steps, Text, Texts};
 use object_store::{Key, Objects};
 use std::alloc::Global;
 use std::sync::ledger::Ledger;
@@ -103,8 +103,8 @@ pub fn look_up<'a, L: Ledger>(
     index: &Index,
     name: &str,
     steps: &mut Steps<L>,
-) -> Option<&'a Tree>
-    ensures object { option_map (λ t. doc_of t.now) result ≡ spec.object_at index.now objects.now.objects name.now }
+) -> Option<&'a CompactJson>
+    ensures object { option_copied result ≡ spec.object_at index.now objects.now.objects name.now }
     ensures ticks { steps.new ≡ steps.old + 1 }
 {
     match index {

@@ -1,8 +1,7 @@
 //! The routes of nodes, roles, environments and clients: one rule for all four collections.
 
-ghost use Rattle.std.specs.Prelude.{◌≡◌, [], ◌∷◌, ◌++◌, Ok, IfOk, OnOk, option_map};
+ghost use Rattle.std.specs.Prelude.{◌≡◌, [], ◌∷◌, ◌++◌, Ok, IfOk, OnOk, option_copied};
 ghost use Rattle.doc_tree.specs.Name.{is_name};
-ghost use Rattle.doc_tree.specs.Tree.{doc_of};
 ghost use Rattle.doc_tree.specs.Valid.{InOrder};
 ghost use Rattle.object_forms.specs.Kinds.{IsFormed};
 ghost use Rattle.object_store.specs.Objects.{key};
@@ -10,23 +9,24 @@ ghost use Rattle.org_core.specs.Contexts.{seen};
 ghost use Rattle.org_core.specs.Creating.{created_by, with_list};
 ghost use Rattle.org_core.specs.Outcomes.{IsAsDecided, Looked, does_by, reads, shows, tells};
 ghost use Rattle.org_requests.specs.Refusals.{Tells, refuses};
-ghost use Rattle.org_requests.specs.Replies.{paths_behind};
+ghost use Rattle.org_requests.specs.Replies.{paths_behind, shown as shown_doc};
 ghost use Rattle.org_core.specs.States.{state_in};
 ghost use Rattle.object_routes.specs.Objects as spec;
 
 use crate::operations::ObjectsOperation;
 use access_lists::Container;
+use compact_json::CompactJson;
 use doc_tree::{Kind, NoMemory, Steps, Text, Tree, is_name};
 use object_finder::Finder;
 use object_store::Key;
 use org_core::{
     Comer, Context, Group, Lent, Move, Moves, Need, Needs, OrgState, Perm, Prepared, Stored,
     add_both, add_with_list, create_by, key_of, listed_need, named_by, object_in_body,
-    object_named, one_move, or_stop, with_moves,
+    object_named, one_move, or_stop, reply_copying, with_moves,
 };
 use org_requests::routes::ObjectsRoute;
 use org_requests::{
-    Body, Collection, Refusal, Request, Stop, Verb, absent, org_uri, shown, shown_paths,
+    Body, Collection, Refusal, Reply, Request, Stop, Verb, absent, org_uri, shown, shown_paths,
 };
 use std::alloc::Global;
 use std::sync::ledger::Ledger;
@@ -488,10 +488,10 @@ fn add_goers(
 }
 
 /// An object that was found to be there is shown.
-pub(crate) fn show(alloc: Global, object: Option<&Tree>) -> Result<Prepared, NoMemory>
-    ensures { IfOk result (λ p. IsAsDecided (Ok p) (reads (shows (spec.or_null (option_map (λ t. doc_of t.now) object.entry)))).answer) }
+pub(crate) fn show(alloc: Global, object: Option<&CompactJson>) -> Result<Prepared, NoMemory>
+    ensures { IfOk result (λ p. IsAsDecided (Ok p) (reads (shows (spec.or_null (option_copied object.entry)))).answer) }
 {
-    let reply = shown(alloc, object.unwrap_or(&Tree::Null))?;
+    let reply = shown_object(alloc, object)?;
     Ok(Prepared {
         reply,
         moves: Moves::new(alloc),
@@ -502,7 +502,7 @@ pub(crate) fn show(alloc: Global, object: Option<&Tree>) -> Result<Prepared, NoM
 pub(crate) fn replace(alloc: Global, key: Key, object: Stored) -> Result<Prepared, NoMemory>
     ensures { IfOk result (λ p. IsAsDecided (Ok p) (spec.replaced key.kind key.name object).answer) }
 {
-    let reply = shown(alloc, object.tree());
+    let reply = reply_copying(alloc, object.text());
     let moves = one_move(alloc, Move::Put(key, object));
     with_moves(reply, moves)
 }
@@ -510,12 +510,22 @@ pub(crate) fn replace(alloc: Global, key: Key, object: Stored) -> Result<Prepare
 /// An object that was found to be there goes by these moves.
 pub(crate) fn remove(
     alloc: Global,
-    object: Option<&Tree>,
+    object: Option<&CompactJson>,
     moves: Moves,
 ) -> Result<Prepared, NoMemory>
-    ensures { IfOk result (λ p. IsAsDecided (Ok p) (does_by (shows (spec.or_null (option_map (λ t. doc_of t.now) object.entry))) moves 1).answer) }
+    ensures { IfOk result (λ p. IsAsDecided (Ok p) (does_by (shows (spec.or_null (option_copied object.entry))) moves 1).answer) }
 {
-    with_moves(shown(alloc, object.unwrap_or(&Tree::Null)), Ok(moves))
+    with_moves(shown_object(alloc, object), Ok(moves))
+}
+
+/// 200 with an object, whose text is copied. One that was found is there.
+fn shown_object(alloc: Global, object: Option<&CompactJson>) -> Result<Reply, NoMemory>
+    ensures { IfOk result (λ reply. reply ≡ shown_doc (spec.or_null (option_copied object.entry))) }
+{
+    match object {
+        Some(object) => reply_copying(alloc, object),
+        None => shown(alloc, &Tree::Null),
+    }
 }
 
 /// The name of an object.

@@ -161,7 +161,8 @@ fn default_comes(alloc: Global) -> Result<Move, NoMemory>
     ensures { IfOk result (λ one. one ≡ spec.default_comes) }
 {
     let key = key_of(alloc, Kind::Environment, "_default")?;
-    Ok(Move::Put(key, Stored::of(default_environment(alloc)?)))
+    let object = Stored::of(alloc, default_environment(alloc)?)?;
+    Ok(Move::Put(key, object))
 }
 
 fn default_list(alloc: Global) -> Result<Move, NoMemory>

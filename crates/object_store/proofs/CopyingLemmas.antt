@@ -10,7 +10,7 @@ use Rattle.std.specs.declared.alloc.Global.{Global}
 use Rattle.std.specs.declared.random_state.RandomState.{RandomState}
 use Rattle.std.specs.declared.string.String.{String}
 use Rattle.indexmap.specs.IndexMap.{IndexMap, get_by_text}
-use Rattle.doc_tree.specs.declared.tree.Tree.{Tree}
+use Rattle.doc_tree.specs.Doc.{Doc}
 
 -- the key has this text
 abbrev pub text : List ℕ → String Global → Bool
@@ -23,7 +23,7 @@ absent w k (e ∷ es) own apart =
     let same : string_bytes k ≡ w = (bytes_decides (string_bytes k) w).0 own in
     ap (λ b. cond b (Some e.1) (lookup (text w) es)) (ap (λ t. bytes_eq t (string_bytes e.0)) (sym same) ∙ apart.0) ∙ absent w k es own apart.1
 
-module _ {V : Type 0} (shown : Option V → List ℕ → Option Tree) where
+module _ {V : Type 0} (shown : Option V → List ℕ → Option Doc) where
   -- a copy has these entries so far, and these are left
   pub record Copied (whole : List (String Global × V)) (made : IndexMap (String Global) V RandomState) (left : List (String Global × V)) : Type 0 where
     pub same : (w n : List ℕ) → shown (option_or (get_by_text made w) (lookup (text w) left)) n ≡ shown (lookup (text w) whole) n

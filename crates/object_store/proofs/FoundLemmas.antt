@@ -11,7 +11,7 @@ use Rattle.doc_tree.specs.declared.kind.Kind.TheVariants as kind
 use Rattle.object_store.specs.declared.key.Key.{Key}
 use Rattle.object_store.specs.Keys.{key}
 use Rattle.object_store.specs.Shelving.{shelf_of, name_on, key_at, holds_items}
-use Rattle.object_store.specs.Kept.{Shelf, Shelves, tree_on, settled, item_on, item_among}
+use Rattle.object_store.specs.Kept.{Shelf, Shelves, object_on, settled, item_on, item_among}
 use Rattle.object_store.proofs.ItemsLemmas.{some-same}
 use Rattle.object_store.proofs.ShelvingLemmas.{key_at-shelved, item-held}
 
@@ -37,8 +37,8 @@ any-entry p r (e ∷ es) x there follows =
       | false ↦ λ passes is. ap (λ b. r e || b) (any-entry p r es x is follows) ∙ or-true (r e)
     ] refl there
 
--- where a tree is found, so is the shelf
-pub shelf-found : (shelf : Option Shelf) (name : List ℕ) → is_some (tree_on shelf name) ≡ true → (s : Shelf) × (shelf ≡ Some s) × (is_some (get_by_text s name) ≡ true)
+-- where an object is found, so is the shelf
+pub shelf-found : (shelf : Option Shelf) (name : List ℕ) → is_some (object_on shelf name) ≡ true → (s : Shelf) × (shelf ≡ Some s) × (is_some (get_by_text s name) ≡ true)
 shelf-found None name there = absurd (true≢false (sym there))
 shelf-found (Some s) name there = (s, refl, there)
 

@@ -8,7 +8,7 @@ use Rattle.std.specs.Cmp.{tied_itself, unsigned_ties}
 use Rattle.std.specs.Cmp.Lexicographic.{slice_cmp, texts_ties}
 use Rattle.std.specs.Map.{lookup}
 use Rattle.doc_tree.specs.declared.kind.Kind.{Kind}
-use Rattle.doc_tree.specs.declared.tree.Tree.{Tree}
+use Rattle.doc_tree.specs.Doc.{Doc}
 use Rattle.object_store.specs.declared.key.Key.{Key}
 use Rattle.object_store.specs.Keys.{key, position_of, key_cmp, key_cmp_total, key_cmp_ties, same_key, is_of}
 
@@ -25,11 +25,11 @@ same_key-key kind name k =
     ∙ (λ i. sym (unsigned_ties (position_of kind) (position_of k.kind)) i && sym (texts_ties name k.name) i)
 
 -- where the first entry has the key, it is what is sought
-pub sought-here : (k : Key) (e : Key × Tree) (rest : List (Key × Tree)) → same_key k e.0 ≡ true → lookup (same_key k) (e ∷ rest) ≡ Some e.1
+pub sought-here : (k : Key) (e : Key × Doc) (rest : List (Key × Doc)) → same_key k e.0 ≡ true → lookup (same_key k) (e ∷ rest) ≡ Some e.1
 sought-here k e rest same = ap (λ b. cond b (Some e.1) (lookup (same_key k) rest)) same
 
 -- and where it has another, what is sought is among the rest
-pub sought-later : (k : Key) (e : Key × Tree) (rest : List (Key × Tree)) → same_key k e.0 ≡ false → lookup (same_key k) (e ∷ rest) ≡ lookup (same_key k) rest
+pub sought-later : (k : Key) (e : Key × Doc) (rest : List (Key × Doc)) → same_key k e.0 ≡ false → lookup (same_key k) (e ∷ rest) ≡ lookup (same_key k) rest
 sought-later k e rest same = ap (λ b. cond b (Some e.1) (lookup (same_key k) rest)) same
 
 -- what is equal ties

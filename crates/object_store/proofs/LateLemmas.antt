@@ -16,19 +16,19 @@ use Rattle.object_store.proofs.KeysLemmas.{same_key-key}
 
 module _ {X : Type 0} where
   -- no key before this one is equal to it
-  apart : (done rest : List (Key × X)) (key earlier : Key) (tree : X) → AllByRecursion (λ k. same_key earlier k ≡ false) (keys_of (done ++ (key, tree) ∷ rest))
+  apart : (done rest : List (Key × X)) (key earlier : Key) (object : X) → AllByRecursion (λ k. same_key earlier k ≡ false) (keys_of (done ++ (key, object) ∷ rest))
       → same_key key earlier ≡ false
-  apart [] rest key earlier tree all = (eq_by_cmp_equiv key_cmp_total).symm key earlier ∙ all.0
-  apart (e ∷ done) rest key earlier tree all = apart done rest key earlier tree all.1
+  apart [] rest key earlier object all = (eq_by_cmp_equiv key_cmp_total).symm key earlier ∙ all.0
+  apart (e ∷ done) rest key earlier object all = apart done rest key earlier object all.1
 
   -- where keys are distinct, the next entry goes last
-  pub insert_entry-next : (done rest : List (Key × X)) (key : Key) (tree : X) → IsDistinct same_key (keys_of (done ++ (key, tree) ∷ rest))
-      → insert_entry same_key done key tree ≡ done ++ (key, tree) ∷ []
+  pub insert_entry-next : (done rest : List (Key × X)) (key : Key) (object : X) → IsDistinct same_key (keys_of (done ++ (key, object) ∷ rest))
+      → insert_entry same_key done key object ≡ done ++ (key, object) ∷ []
   unfolding IsDistinct
-  insert_entry-next [] rest key tree distinct = refl
-  insert_entry-next (e ∷ done) rest key tree distinct =
-      ap (λ same. cond same ((e.0, tree) ∷ done) (e ∷ insert_entry same_key done key tree)) (apart done rest key e.0 tree distinct.0)
-      ∙ ap (λ more. e ∷ more) (insert_entry-next done rest key tree distinct.1)
+  insert_entry-next [] rest key object distinct = refl
+  insert_entry-next (e ∷ done) rest key object distinct =
+      ap (λ same. cond same ((e.0, object) ∷ done) (e ∷ insert_entry same_key done key object)) (apart done rest key e.0 object distinct.0)
+      ∙ ap (λ more. e ∷ more) (insert_entry-next done rest key object distinct.1)
 
   -- a copy has these entries so far, and these are left
   pub record Copying (whole done left : List (Key × X)) : Type 0 where
@@ -36,12 +36,12 @@ module _ {X : Type 0} where
     pub distinct : IsDistinct same_key (keys_of (done ++ left))
 
   -- one entry more is copied
-  pub Copying-more : (entries done rest now : List (Key × X)) (key copied : Key) (tree same : X) → Copying entries done ((key, tree) ∷ rest)
-      → copied ≡ key → same ≡ tree → now ≡ insert_entry same_key done copied same → Copying entries now rest
-  Copying-more entries done rest now key copied tree same before equal_key equal_tree inserted =
-      let last : now ≡ done ++ (key, tree) ∷ [] =
-      inserted ∙ (λ i. insert_entry same_key done (equal_key i) (equal_tree i)) ∙ insert_entry-next done rest key tree before.distinct in
-      let whole : now ++ rest ≡ done ++ (key, tree) ∷ rest = ap (λ es. es ++ rest) last ∙ append_assoc done ((key, tree) ∷ []) rest in
+  pub Copying-more : (entries done rest now : List (Key × X)) (key copied : Key) (object same : X) → Copying entries done ((key, object) ∷ rest)
+      → copied ≡ key → same ≡ object → now ≡ insert_entry same_key done copied same → Copying entries now rest
+  Copying-more entries done rest now key copied object same before equal_key equal_tree inserted =
+      let last : now ≡ done ++ (key, object) ∷ [] =
+      inserted ∙ (λ i. insert_entry same_key done (equal_key i) (equal_tree i)) ∙ insert_entry-next done rest key object before.distinct in
+      let whole : now ++ rest ≡ done ++ (key, object) ∷ rest = ap (λ es. es ++ rest) last ∙ append_assoc done ((key, object) ∷ []) rest in
       record {
         all = whole ∙ before.all;
         distinct = subst (λ es. IsDistinct same_key (keys_of es)) (sym whole) before.distinct;

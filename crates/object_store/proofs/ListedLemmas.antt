@@ -7,7 +7,7 @@ use Rattle.std.specs.Option.{option_or}
 use Rattle.doc_tree.specs.Valid.{InOrder}
 use Rattle.doc_tree.specs.declared.kind.Kind.{Kind}
 use Rattle.doc_tree.specs.declared.kind.Kind.TheVariants as kind
-use Rattle.doc_tree.specs.declared.tree.Tree.{Tree}
+use Rattle.doc_tree.specs.Doc.{Doc}
 use Rattle.object_store.specs.Items.{behind_front, item_front, item_name, ids_in}
 use Rattle.object_store.specs.Keys.{key}
 use Rattle.object_store.specs.Objects.{names_in}
@@ -15,24 +15,22 @@ use Rattle.object_store.specs.Kept.{Late, Shelves, found, objects_in, has}
 use Rattle.object_store.proofs.ItemsLemmas.{names_item, names_no_item, rests-order}
 use Rattle.object_store.proofs.ListingLemmas.{same_in_order}
 use Rattle.object_store.proofs.NamesLemmas.{names_in-has, names_in-order}
-use Rattle.object_store.proofs.ObjectsLemmas.{is_some-doc_of}
 use Rattle.object_store.proofs.ViewLemmas.{get-objects_in}
 
 -- what was gathered of those that came late and then of those on the shelves
-pub gathered : (none late all : Bool) (x y : Option Tree) → none ≡ false → late ≡ (none || is_some x) → all ≡ (late || is_some y) → all ≡ is_some (option_or x y)
+pub gathered : (none late all : Bool) (x y : Option Doc) → none ≡ false → late ≡ (none || is_some x) → all ≡ (late || is_some y) → all ≡ is_some (option_or x y)
 gathered none late all x y empty first second =
     second ∙ ap (λ b. b || is_some y) (first ∙ ap (λ b. b || is_some x) empty) ∙ either x
   where
-    either : (o : Option Tree) → ((false || is_some o) || is_some y) ≡ is_some (option_or o y)
+    either : (o : Option Doc) → ((false || is_some o) || is_some y) ≡ is_some (option_or o y)
     either None = refl
     either (Some t) = refl
 
--- a name is seen where a tree of it is found
+-- a name is seen where an object of it is found
 seen : (kind : Kind) (name : List ℕ) (late : Late) (shelves : Shelves) → list_any (bytes_eq name) (names_in kind (objects_in late shelves)) ≡ is_some (found late shelves (key kind name))
 seen kind name late shelves =
     names_in-has kind name (objects_in late shelves)
     ∙ ap is_some (get-objects_in late shelves (key kind name))
-    ∙ is_some-doc_of (found late shelves (key kind name))
 
 -- the names that were gathered, in order, are the names that are seen
 pub names-listed : {E : Type 0} (r : Result (List (List ℕ)) E) (kind : Kind) (late : Late) (shelves : Shelves) (names : BTreeSet (List ℕ))

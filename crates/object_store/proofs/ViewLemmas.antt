@@ -10,8 +10,7 @@ use Rattle.std.specs.Option.{option_or}
 use Rattle.std.specs.declared.alloc.Global.{Global}
 use Rattle.std.specs.declared.string.String.{String}
 use Rattle.indexmap.specs.IndexMap.{get, get_by_text, keys}
-use Rattle.doc_tree.specs.Tree.{doc_of}
-use Rattle.doc_tree.specs.declared.tree.Tree.{Tree}
+use Rattle.doc_tree.specs.Doc.{Doc}
 use Rattle.object_store.specs.declared.key.Key.{Key}
 use Rattle.object_store.specs.Keys.{key_cmp, key_cmp_total, key_cmp_ties, same_key}
 use Rattle.object_store.specs.Shelving.{shelf_of, name_on, key_at}
@@ -81,7 +80,7 @@ found-among : (late : Late) (shelves : Shelves) (q : Key) → is_some (found lat
 found-among late shelves q there =
     any-append (same_key q) (keys late) (flat_map keys_on shelves.entries) ∙ by_late (get same_key late q) refl there
   where
-    by_late : (o : Option Tree) → get same_key late q ≡ o → is_some (option_or o (settled shelves q)) ≡ true → (list_any (same_key q) (keys late) || list_any (same_key q) (flat_map keys_on shelves.entries)) ≡ true
+    by_late : (o : Option Doc) → get same_key late q ≡ o → is_some (option_or o (settled shelves q)) ≡ true → (list_any (same_key q) (keys late) || list_any (same_key q) (flat_map keys_on shelves.entries)) ≡ true
     by_late (Some t) is h =
         ap (λ b. b || list_any (same_key q) (flat_map keys_on shelves.entries)) (any-key (same_key q) (same_key q) late.entries (ap is_some is) (λ k same. same))
     by_late None is h =
@@ -89,37 +88,37 @@ found-among late shelves q there =
         ap (λ b. list_any (same_key q) (keys late) || b) (on-shelves q shelf.0 shelves.entries shelf.1 shelf.2) ∙ or-true (list_any (same_key q) (keys late))
 
 -- a table of keys has what is found under each of them
-find-table : (tree : Key → Option Tree) (q : Key) (ks : List Key) → (is_some (tree q) ≡ true → list_any (same_key q) ks ≡ true)
-    → finite.find key_cmp q (filter_map (with_doc tree) ks) ≡ option_map doc_of (tree q)
-find-table tree q [] among = nothing (tree q) among
+find-table : (object : Key → Option Doc) (q : Key) (ks : List Key) → (is_some (object q) ≡ true → list_any (same_key q) ks ≡ true)
+    → finite.find key_cmp q (filter_map (with_doc object) ks) ≡ (object q)
+find-table object q [] among = nothing (object q) among
   where
-    nothing : (o : Option Tree) → (is_some o ≡ true → false ≡ true) → None ≡ option_map doc_of o
+    nothing : (o : Option Doc) → (is_some o ≡ true → false ≡ true) → None ≡ o
     nothing None among = refl
     nothing (Some t) among = absurd (true≢false (sym (among refl)))
-find-table tree q (k ∷ ks) among = by_key (same_key q k) refl among (find-table tree q ks)
+find-table object q (k ∷ ks) among = by_key (same_key q k) refl among (find-table object q ks)
   where
-    own : (o : Option Tree) → tree k ≡ o → q ≡ k → ((is_some (tree q) ≡ true → list_any (same_key q) ks ≡ true) → finite.find key_cmp q (filter_map (with_doc tree) ks) ≡ option_map doc_of (tree q))
-        → finite.find key_cmp q (cons_option (option_map (λ (t : Tree). (k, doc_of t)) o) (filter_map (with_doc tree) ks)) ≡ option_map doc_of (tree q)
-    own None is same rest = rest (λ there. absurd (true≢false (sym there ∙ ap is_some (ap tree same ∙ is))))
+    own : (o : Option Doc) → object k ≡ o → q ≡ k → ((is_some (object q) ≡ true → list_any (same_key q) ks ≡ true) → finite.find key_cmp q (filter_map (with_doc object) ks) ≡ (object q))
+        → finite.find key_cmp q (cons_option (option_map (λ (t : Doc). (k, t)) o) (filter_map (with_doc object) ks)) ≡ (object q)
+    own None is same rest = rest (λ there. absurd (true≢false (sym there ∙ ap is_some (ap object same ∙ is))))
     own (Some t) is same rest =
-        ap (λ b. cond b (Some (doc_of t)) (finite.find key_cmp q (filter_map (with_doc tree) ks))) (subst (λ (l : Key). same_key q l ≡ true) same (same_key-self q))
-        ∙ ap (option_map doc_of) (sym (ap tree same ∙ is))
+        ap (λ b. cond b (Some t) (finite.find key_cmp q (filter_map (with_doc object) ks))) (subst (λ (l : Key). same_key q l ≡ true) same (same_key-self q))
+        ∙ (sym (ap object same ∙ is))
 
-    other : (o : Option Tree) → tree k ≡ o → same_key q k ≡ false → (is_some (tree q) ≡ true → list_any (same_key q) ks ≡ true)
-        → ((is_some (tree q) ≡ true → list_any (same_key q) ks ≡ true) → finite.find key_cmp q (filter_map (with_doc tree) ks) ≡ option_map doc_of (tree q))
-        → finite.find key_cmp q (cons_option (option_map (λ (t : Tree). (k, doc_of t)) o) (filter_map (with_doc tree) ks)) ≡ option_map doc_of (tree q)
+    other : (o : Option Doc) → object k ≡ o → same_key q k ≡ false → (is_some (object q) ≡ true → list_any (same_key q) ks ≡ true)
+        → ((is_some (object q) ≡ true → list_any (same_key q) ks ≡ true) → finite.find key_cmp q (filter_map (with_doc object) ks) ≡ (object q))
+        → finite.find key_cmp q (cons_option (option_map (λ (t : Doc). (k, t)) o) (filter_map (with_doc object) ks)) ≡ (object q)
     other None is apart left rest = rest left
     other (Some t) is apart left rest =
-        ap (λ b. cond b (Some (doc_of t)) (finite.find key_cmp q (filter_map (with_doc tree) ks))) apart ∙ rest left
+        ap (λ b. cond b (Some t) (finite.find key_cmp q (filter_map (with_doc object) ks))) apart ∙ rest left
 
-    by_key : (b : Bool) → same_key q k ≡ b → (is_some (tree q) ≡ true → (b || list_any (same_key q) ks) ≡ true)
-        → ((is_some (tree q) ≡ true → list_any (same_key q) ks ≡ true) → finite.find key_cmp q (filter_map (with_doc tree) ks) ≡ option_map doc_of (tree q))
-        → finite.find key_cmp q (filter_map (with_doc tree) (k ∷ ks)) ≡ option_map doc_of (tree q)
-    by_key true same left rest = own (tree k) refl (same_key-is q k same) rest
-    by_key false same left rest = other (tree k) refl same left rest
+    by_key : (b : Bool) → same_key q k ≡ b → (is_some (object q) ≡ true → (b || list_any (same_key q) ks) ≡ true)
+        → ((is_some (object q) ≡ true → list_any (same_key q) ks ≡ true) → finite.find key_cmp q (filter_map (with_doc object) ks) ≡ (object q))
+        → finite.find key_cmp q (filter_map (with_doc object) (k ∷ ks)) ≡ (object q)
+    by_key true same left rest = own (object k) refl (same_key-is q k same) rest
+    by_key false same left rest = other (object k) refl same left rest
 
--- the document of a key is that of the tree that is found
-pub get-objects_in : (late : Late) (shelves : Shelves) (k : Key) → finite.get (objects_in late shelves) k ≡ option_map doc_of (found late shelves k)
+-- the document of a key is that of the object that is found
+pub get-objects_in : (late : Late) (shelves : Shelves) (k : Key) → finite.get (objects_in late shelves) k ≡ (found late shelves k)
 get-objects_in late shelves k =
     finite.get-from_entries key_cmp_total (filter_map (with_doc (found late shelves)) (all_keys late shelves)) k
     ∙ find-table (found late shelves) k (all_keys late shelves) (found-among late shelves k)
@@ -128,28 +127,28 @@ get-objects_in late shelves k =
 pub objects_in-same : (late now : Late) (shelves then : Shelves) → ((k : Key) → found now then k ≡ found late shelves k) → objects_in now then ≡ objects_in late shelves
 objects_in-same late now shelves then same =
     finite.same_map key_cmp_total key_cmp_ties (objects_in now then) (objects_in late shelves) (λ q.
-    get-objects_in now then q ∙ ap (option_map doc_of) (same q) ∙ sym (get-objects_in late shelves q))
+    get-objects_in now then q ∙ (same q) ∙ sym (get-objects_in late shelves q))
 
--- to put a tree in is to insert its document
-pub objects_in-insert : (late now : Late) (shelves then : Shelves) (key : Key) (tree : Tree) → ((k : Key) → found now then k ≡ cond (same_key key k) (Some tree) (found late shelves k))
-    → objects_in now then ≡ finite.insert (objects_in late shelves) key (doc_of tree)
-objects_in-insert late now shelves then key tree written =
-    finite.same_map key_cmp_total key_cmp_ties (objects_in now then) (finite.insert (objects_in late shelves) key (doc_of tree)) (λ q.
+-- to put an object in is to insert its document
+pub objects_in-insert : (late now : Late) (shelves then : Shelves) (key : Key) (object : Doc) → ((k : Key) → found now then k ≡ cond (same_key key k) (Some object) (found late shelves k))
+    → objects_in now then ≡ finite.insert (objects_in late shelves) key object
+objects_in-insert late now shelves then key object written =
+    finite.same_map key_cmp_total key_cmp_ties (objects_in now then) (finite.insert (objects_in late shelves) key object) (λ q.
     get-objects_in now then q
-    ∙ ap (option_map doc_of) (written q)
-    ∙ elim (same_key key q) as (λ same. option_map doc_of (cond same (Some tree) (found late shelves q)) ≡ cond same (Some (doc_of tree)) (option_map doc_of (found late shelves q))) [ true ↦ refl | false ↦ refl ]
-    ∙ ap (λ same. cond same (Some (doc_of tree)) (option_map doc_of (found late shelves q))) ((eq_by_cmp_equiv key_cmp_total).symm key q)
-    ∙ ap (cond (same_key q key) (Some (doc_of tree))) (sym (get-objects_in late shelves q))
-    ∙ sym (finite.get-insert key_cmp_total (objects_in late shelves) key (doc_of tree) q))
+    ∙ (written q)
+    ∙ elim (same_key key q) as (λ same. (cond same (Some object) (found late shelves q)) ≡ cond same (Some object) ((found late shelves q))) [ true ↦ refl | false ↦ refl ]
+    ∙ ap (λ same. cond same (Some object) ((found late shelves q))) ((eq_by_cmp_equiv key_cmp_total).symm key q)
+    ∙ ap (cond (same_key q key) (Some object)) (sym (get-objects_in late shelves q))
+    ∙ sym (finite.get-insert key_cmp_total (objects_in late shelves) key object q))
 
--- to take a tree out is to remove its document
+-- to take an object out is to remove its document
 pub objects_in-remove : (late now : Late) (shelves then : Shelves) (key : Key) → ((k : Key) → found now then k ≡ cond (same_key key k) None (found late shelves k))
     → objects_in now then ≡ finite.remove (objects_in late shelves) key
 objects_in-remove late now shelves then key taken =
     finite.same_map key_cmp_total key_cmp_ties (objects_in now then) (finite.remove (objects_in late shelves) key) (λ q.
     get-objects_in now then q
-    ∙ ap (option_map doc_of) (taken q)
-    ∙ elim (same_key key q) as (λ same. option_map doc_of (cond same None (found late shelves q)) ≡ cond same None (option_map doc_of (found late shelves q))) [ true ↦ refl | false ↦ refl ]
-    ∙ ap (λ same. cond same None (option_map doc_of (found late shelves q))) ((eq_by_cmp_equiv key_cmp_total).symm key q)
+    ∙ (taken q)
+    ∙ elim (same_key key q) as (λ same. (cond same None (found late shelves q)) ≡ cond same None ((found late shelves q))) [ true ↦ refl | false ↦ refl ]
+    ∙ ap (λ same. cond same None ((found late shelves q))) ((eq_by_cmp_equiv key_cmp_total).symm key q)
     ∙ ap (cond (same_key q key) None) (sym (get-objects_in late shelves q))
     ∙ sym (finite.get-remove key_cmp_total (objects_in late shelves) key q))

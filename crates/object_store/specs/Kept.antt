@@ -11,8 +11,6 @@ use Rattle.std.specs.declared.string.String.{String}
 use Rattle.indexmap.specs.IndexMap.{IndexMap, get, get_by_text, keys, spare}
 use Rattle.std.specs.FinMap as finite
 use Rattle.doc_tree.specs.Doc.{Doc}
-use Rattle.doc_tree.specs.Tree.{doc_of}
-use Rattle.doc_tree.specs.declared.tree.Tree.{Tree}
 use Rattle.object_store.specs.declared.key.Key.{Key}
 use Rattle.object_store.specs.Keys.{same_key}
 use Rattle.object_store.specs.Objects.{Objects}
@@ -20,30 +18,30 @@ use Rattle.object_store.specs.Shelving.{shelf_of, name_on, key_at, holds_items}
 
 -- objects by their keys
 abbrev pub Late : Type 0
-Late = IndexMap Key Tree RandomState
+Late = IndexMap Key Doc RandomState
 
 -- objects by the names that they have on one shelf
 abbrev pub Shelf : Type 0
-Shelf = IndexMap (String Global) Tree RandomState
+Shelf = IndexMap (String Global) Doc RandomState
 
 -- shelves by their words
 abbrev pub Shelves : Type 0
 Shelves = IndexMap (String Global) Shelf RandomState
 
--- the tree of this name on a shelf, if there is a shelf
-abbrev pub tree_on : Option Shelf → List ℕ → Option Tree
-tree_on shelf name = option_and_then (λ (s : Shelf). get_by_text s name) shelf
+-- the object of this name on a shelf, if there is a shelf
+abbrev pub object_on : Option Shelf → List ℕ → Option Doc
+object_on shelf name = option_and_then (λ (s : Shelf). get_by_text s name) shelf
 
--- the tree of this name on the shelf of this word
-abbrev pub on_shelf : Shelves → List ℕ → List ℕ → Option Tree
-on_shelf shelves word name = tree_on (get_by_text shelves word) name
+-- the object of this name on the shelf of this word
+abbrev pub on_shelf : Shelves → List ℕ → List ℕ → Option Doc
+on_shelf shelves word name = object_on (get_by_text shelves word) name
 
--- the tree of a key on its shelf
-abbrev pub settled : Shelves → Key → Option Tree
+-- the object of a key on its shelf
+abbrev pub settled : Shelves → Key → Option Doc
 settled shelves k = on_shelf shelves (shelf_of k) (name_on k)
 
--- the tree of a key: what came late goes before what is on the shelf
-abbrev pub found : Late → Shelves → Key → Option Tree
+-- the object of a key: what came late goes before what is on the shelf
+abbrev pub found : Late → Shelves → Key → Option Doc
 found late shelves k = option_or (get same_key late k) (settled shelves k)
 
 -- the shelf of this word has room
@@ -53,7 +51,7 @@ HasRoom shelves word = (shelf : Shelf) × (get_by_text shelves word ≡ Some she
 -- the last of those that came late has this name on its shelf, and there is room for it
 abbrev pub IsReady : Late → Shelves → List ℕ → Type 0
 IsReady late shelves name =
-    (front : List (Key × Tree)) → (k : Key) → (t : Tree) → late.entries ≡ front ++ (k, t) ∷ [] → (name ≡ name_on k) × HasRoom shelves (shelf_of k)
+    (front : List (Key × Doc)) → (k : Key) → (t : Doc) → late.entries ≡ front ++ (k, t) ∷ [] → (name ≡ name_on k) × HasRoom shelves (shelf_of k)
 
 -- the keys of what is on a shelf
 abbrev pub keys_on : String Global × Shelf → List Key
@@ -63,9 +61,9 @@ keys_on entry = map (λ (name : String Global). key_at (string_bytes entry.0) (s
 abbrev pub all_keys : Late → Shelves → List Key
 all_keys late shelves = keys late ++ flat_map keys_on shelves.entries
 
--- a key and its document, where there is a tree
-abbrev pub with_doc : (Key → Option Tree) → Key → Option (Key × Doc)
-with_doc tree k = option_map (λ (t : Tree). (k, doc_of t)) (tree k)
+-- a key and its document, where there is an object
+abbrev pub with_doc : (Key → Option Doc) → Key → Option (Key × Doc)
+with_doc object k = option_map (λ (t : Doc). (k, t)) (object k)
 
 -- the objects by their keys
 abbrev pub objects_in : Late → Shelves → Objects

@@ -11,12 +11,13 @@ use crate::item::is_item;
 use crate::listing::add_name;
 use crate::shelves::{Shelf, Shelves, add_names, find};
 use crate::shelving::{shelved, word_of};
-use doc_tree::{Kind, NoMemory, Text, Tree};
+use compact_json::CompactJson;
+use doc_tree::{Kind, NoMemory, Text};
 use std::alloc::Global;
 use std::collections::BTreeSet;
 
 /// The object of this kind and name on its shelf.
-pub(crate) fn find_settled<'a>(shelves: &'a Shelves, kind: Kind, name: &str) -> Option<&'a Tree>
+pub(crate) fn find_settled<'a>(shelves: &'a Shelves, kind: Kind, name: &str) -> Option<&'a CompactJson>
     ensures { option_copied result ≡ settled shelves.now (key kind name.now) }
 {
     let (word, name) = shelved(kind, name);
@@ -24,7 +25,7 @@ pub(crate) fn find_settled<'a>(shelves: &'a Shelves, kind: Kind, name: &str) -> 
 }
 
 /// The item of this id in this bag on its shelf, without joining its name.
-pub(crate) fn find_item<'a>(shelves: &'a Shelves, bag: &str, id: &str) -> Option<&'a Tree>
+pub(crate) fn find_item<'a>(shelves: &'a Shelves, bag: &str, id: &str) -> Option<&'a CompactJson>
     ensures { option_copied result ≡ settled shelves.now (key Kind.Item (item_name bag.now id.now)) }
 {
     match split_bag(bag) {
@@ -45,7 +46,7 @@ fn split_bag(bag: &str) -> Option<(&str, &str)>
 }
 
 // No bag's name has a slash, so no request comes here.
-fn find_joined<'a>(shelves: &'a Shelves, word: &str, bag: &str, id: &str) -> Option<&'a Tree>
+fn find_joined<'a>(shelves: &'a Shelves, word: &str, bag: &str, id: &str) -> Option<&'a CompactJson>
     ensures { option_copied result ≡ on_shelf shelves.now word.now (item_name bag.now id.now) }
 {
     match shelves.get(word) {
@@ -54,12 +55,12 @@ fn find_joined<'a>(shelves: &'a Shelves, word: &str, bag: &str, id: &str) -> Opt
     }
 }
 
-fn seek_joined<'a>(shelf: &'a Shelf, bag: &str, id: &str) -> Option<&'a Tree>
+fn seek_joined<'a>(shelf: &'a Shelf, bag: &str, id: &str) -> Option<&'a CompactJson>
     ensures { option_copied result ≡ get_by_text shelf.now (item_name bag.now id.now) }
 {
-    for (name, tree) in shelf {
+    for (name, object) in shelf {
         if is_item(name.as_str(), bag, id) {
-            return Some(tree);
+            return Some(object);
         }
     }
     None

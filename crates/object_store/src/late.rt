@@ -10,34 +10,35 @@ ghost use Rattle.object_store.specs.Kept.{has};
 use crate::item::id_in;
 use crate::key::Key;
 use crate::listing::add_name;
-use doc_tree::{Kind, NoMemory, Text, Tree};
+use compact_json::CompactJson;
+use doc_tree::{Kind, NoMemory, Text};
 use indexmap::IndexMap;
 use std::alloc::Global;
 use std::collections::BTreeSet;
 use std::hash::RandomState;
 
 /// Objects by their keys.
-pub(crate) type Late = IndexMap<Key, Tree, RandomState>;
+pub(crate) type Late = IndexMap<Key, CompactJson, RandomState>;
 
 /// The object of this kind and name, which is not copied. There are few, and it looks at each.
-pub(crate) fn seek<'a>(late: &'a Late, kind: Kind, name: &str) -> Option<&'a Tree>
+pub(crate) fn seek<'a>(late: &'a Late, kind: Kind, name: &str) -> Option<&'a CompactJson>
     ensures { option_copied result ≡ get same_key late.now (key kind name.now) }
 {
-    for (key, tree) in late {
+    for (key, object) in late {
         if key.is_named(kind, name) {
-            return Some(tree);
+            return Some(object);
         }
     }
     None
 }
 
 /// The item of this id in this bag. It looks at each.
-pub(crate) fn seek_item<'a>(late: &'a Late, bag: &str, id: &str) -> Option<&'a Tree>
+pub(crate) fn seek_item<'a>(late: &'a Late, bag: &str, id: &str) -> Option<&'a CompactJson>
     ensures { option_copied result ≡ get same_key late.now (key Kind.Item (item_name bag.now id.now)) }
 {
-    for (key, tree) in late {
+    for (key, object) in late {
         if key.is_item(bag, id) {
-            return Some(tree);
+            return Some(object);
         }
     }
     None
@@ -120,15 +121,15 @@ fn add_copies(alloc: Global, late: &Late, made: &mut Late) -> Result<(), NoMemor
     requires { made.old.entries ≡ [] }
     ensures { OnOk result (made.new.entries ≡ late.now.entries) }
 {
-    for (key, tree) in late {
-        keep(made, key.copy(alloc)?, tree.copy(alloc)?)?;
+    for (key, object) in late {
+        keep(made, key.copy(alloc)?, object.copy(alloc)?)?;
     }
     Ok(())
 }
 
-fn keep(late: &mut Late, key: Key, tree: Tree) -> Result<(), NoMemory>
-    ensures { OnOk result (late.new.entries ≡ insert_entry same_key late.old.entries key tree) }
+fn keep(late: &mut Late, key: Key, object: CompactJson) -> Result<(), NoMemory>
+    ensures { OnOk result (late.new.entries ≡ insert_entry same_key late.old.entries key object) }
 {
-    drop(late.insert(key, tree)?);
+    drop(late.insert(key, object)?);
     Ok(())
 }

@@ -2,7 +2,6 @@
 ghost use Rattle.std.specs.Prelude.{◌≡◌, ◌+◌, ◌<◌, ◌≤◌, IfOk, None, OnOk, cond, option_copied, option_map, is_some, string_bytes};
 ghost use Rattle.std.specs.FinMap as finite;
 ghost use Rattle.std.specs.List.{filter_map};
-ghost use Rattle.doc_tree.specs.Tree.{doc_of};
 ghost use Rattle.indexmap.specs.IndexMap.{get, spare};
 ghost use Rattle.doc_tree.specs.Valid.{InOrder};
 ghost use Rattle.membership.specs.MapValues.{map_values};
@@ -22,7 +21,8 @@ use crate::lists::Lists;
 use crate::shelves::{Shelves, add_names, copy_shelves, make_room, put_on, take};
 use crate::shelving::shelved;
 use access_lists::Acl;
-use doc_tree::{Kind, NoMemory, Steps, Text, Texts, Tree};
+use compact_json::CompactJson;
+use doc_tree::{Kind, NoMemory, Steps, Text, Texts};
 use indexmap::IndexMap;
 use std::alloc::Global;
 use std::collections::BTreeSet;
@@ -135,22 +135,22 @@ impl Objects {
 
     /// Puts an object in, and gives back the one that had its key, if there was one. It takes no
     /// memory.
-    pub fn put(&mut self, key: Key, tree: Tree) -> Option<Tree>
+    pub fn put(&mut self, key: Key, object: CompactJson) -> Option<CompactJson>
         requires { 0 < self.old.spare }
-        ensures objects { self.new.objects ≡ finite.insert self.old.objects key (doc_of tree) }
-        ensures before { option_map doc_of result ≡ finite.get self.old.objects key }
+        ensures objects { self.new.objects ≡ finite.insert self.old.objects key object }
+        ensures before { result ≡ finite.get self.old.objects key }
         ensures lists { self.new.lists ≡ self.old.lists }
         ensures spare { self.old.spare ≤ self.new.spare + 1 }
     {
         let before = take_from(&mut self.late, &mut self.shelves, &key);
-        drop(self.late.insert(key, tree));
+        drop(self.late.insert(key, object));
         before
     }
 
     /// Takes the object of this key out, if there is one, and gives it back. It takes no memory.
-    pub fn take_out(&mut self, key: &Key) -> Option<Tree>
+    pub fn take_out(&mut self, key: &Key) -> Option<CompactJson>
         ensures objects { self.new.objects ≡ finite.remove self.old.objects key.now }
-        ensures taken { option_map doc_of result ≡ finite.get self.old.objects key.now }
+        ensures taken { result ≡ finite.get self.old.objects key.now }
         ensures lists { self.new.lists ≡ self.old.lists }
         ensures spare { self.old.spare ≤ self.new.spare }
     {
@@ -158,20 +158,20 @@ impl Objects {
     }
 
     /// The object of this key, if there is one. It counts one step: no other call looks at a body.
-    pub fn read<L: Ledger>(&self, key: &Key, steps: &mut Steps<L>) -> Option<&Tree>
-        ensures object { option_map (λ t. doc_of t.now) result ≡ finite.get self.now.objects key.now }
+    pub fn read<L: Ledger>(&self, key: &Key, steps: &mut Steps<L>) -> Option<&CompactJson>
+        ensures object { option_copied result ≡ finite.get self.now.objects key.now }
         ensures ticks { steps.new ≡ steps.old + 1 }
     {
         steps.tick();
         match self.late.get(key) {
-            Some(tree) => Some(tree),
+            Some(object) => Some(object),
             None => find_settled(&self.shelves, key.kind, key.name.as_str()),
         }
     }
 
     /// The object of this kind and name, which is not copied. It counts one step.
-    pub fn look_up<L: Ledger>(&self, kind: Kind, name: &str, steps: &mut Steps<L>) -> Option<&Tree>
-        ensures object { option_map (λ t. doc_of t.now) result ≡ finite.get self.now.objects (key kind name.now) }
+    pub fn look_up<L: Ledger>(&self, kind: Kind, name: &str, steps: &mut Steps<L>) -> Option<&CompactJson>
+        ensures object { option_copied result ≡ finite.get self.now.objects (key kind name.now) }
         ensures ticks { steps.new ≡ steps.old + 1 }
     {
         steps.tick();
@@ -186,8 +186,8 @@ impl Objects {
     }
 
     /// The item of this id in this bag, whose name is not joined. It counts one step.
-    pub fn item<L: Ledger>(&self, bag: &str, id: &str, steps: &mut Steps<L>) -> Option<&Tree>
-        ensures object { option_map (λ t. doc_of t.now) result ≡ finite.get self.now.objects (key Kind.Item (item_name bag.now id.now)) }
+    pub fn item<L: Ledger>(&self, bag: &str, id: &str, steps: &mut Steps<L>) -> Option<&CompactJson>
+        ensures object { option_copied result ≡ finite.get self.now.objects (key Kind.Item (item_name bag.now id.now)) }
         ensures ticks { steps.new ≡ steps.old + 1 }
     {
         steps.tick();
@@ -242,25 +242,25 @@ impl Objects {
 }
 
 // The object of this kind and name: what came late goes before what is on the shelf.
-fn look<'a>(late: &'a Late, shelves: &'a Shelves, kind: Kind, name: &str) -> Option<&'a Tree>
+fn look<'a>(late: &'a Late, shelves: &'a Shelves, kind: Kind, name: &str) -> Option<&'a CompactJson>
     ensures { option_copied result ≡ found late.now shelves.now (key kind name.now) }
 {
     match seek(late, kind, name) {
-        Some(tree) => Some(tree),
+        Some(object) => Some(object),
         None => find_settled(shelves, kind, name),
     }
 }
 
-fn look_item<'a>(late: &'a Late, shelves: &'a Shelves, bag: &str, id: &str) -> Option<&'a Tree>
+fn look_item<'a>(late: &'a Late, shelves: &'a Shelves, bag: &str, id: &str) -> Option<&'a CompactJson>
     ensures { option_copied result ≡ found late.now shelves.now (key Kind.Item (item_name bag.now id.now)) }
 {
     match seek_item(late, bag, id) {
-        Some(tree) => Some(tree),
+        Some(object) => Some(object),
         None => find_item(shelves, bag, id),
     }
 }
 
-fn take_from(late: &mut Late, shelves: &mut Shelves, key: &Key) -> Option<Tree>
+fn take_from(late: &mut Late, shelves: &mut Shelves, key: &Key) -> Option<CompactJson>
     ensures taken { result ≡ found late.old shelves.old key.now }
     ensures left { (k : AKey) → found late.new shelves.new k ≡ cond (same_key key.now k) None (found late.old shelves.old k) }
     ensures spare { spare late.old ≤ spare late.new }
@@ -272,7 +272,7 @@ fn take_from(late: &mut Late, shelves: &mut Shelves, key: &Key) -> Option<Tree>
 }
 
 // The object of this key goes where it came late. Where none did, nothing is hashed.
-fn take_late(late: &mut Late, key: &Key) -> Option<Tree>
+fn take_late(late: &mut Late, key: &Key) -> Option<CompactJson>
     ensures taken { result ≡ get same_key late.old key.now }
     ensures left { (k : AKey) → get same_key late.new k ≡ cond (same_key key.now k) None (get same_key late.old k) }
     ensures spare { spare late.old ≤ spare late.new }
@@ -316,9 +316,9 @@ fn move_last(late: &mut Late, shelves: &mut Shelves, name: String)
     ensures same { (k : AKey) → found late.new shelves.new k ≡ found late.old shelves.old k }
     ensures spare { spare late.old ≤ spare late.new }
 {
-    if let Some((key, tree)) = late.pop() {
+    if let Some((key, object)) = late.pop() {
         let (word, _) = shelved(key.kind, key.name.as_str());
-        put_on(shelves, word, name, tree);
+        put_on(shelves, word, name, object);
     }
 }
 

@@ -1,23 +1,24 @@
 //! Shelves, each with objects by the names that they have on it.
 ghost use Rattle.std.specs.Prelude.{IsTrue, true, false, ◌≡◌, ◌&&◌, ◌||◌, ◌<◌, [], List, ℕ, None, Some, IfOk, OnOk, bytes_eq, cond, is_some, option_copied, string_bytes};
 ghost use Rattle.indexmap.specs.IndexMap.{get_by_text};
-ghost use Rattle.object_store.specs.Kept.{HasRoom, has, on_shelf, tree_on};
+ghost use Rattle.object_store.specs.Kept.{HasRoom, has, on_shelf, object_on};
 
 use crate::listing::add_name;
-use doc_tree::{NoMemory, Text, Tree};
+use compact_json::CompactJson;
+use doc_tree::{NoMemory, Text};
 use indexmap::IndexMap;
 use std::alloc::Global;
 use std::collections::BTreeSet;
 use std::hash::RandomState;
 
 /// Objects by the names that they have on one shelf.
-pub(crate) type Shelf = IndexMap<String, Tree, RandomState>;
+pub(crate) type Shelf = IndexMap<String, CompactJson, RandomState>;
 
 /// Shelves by their words. A shelf goes with the last object on it.
 pub(crate) type Shelves = IndexMap<String, Shelf, RandomState>;
 
 /// The object of this name on the shelf of this word.
-pub(crate) fn find<'a>(shelves: &'a Shelves, word: &str, name: &str) -> Option<&'a Tree>
+pub(crate) fn find<'a>(shelves: &'a Shelves, word: &str, name: &str) -> Option<&'a CompactJson>
     ensures { option_copied result ≡ on_shelf shelves.now word.now name.now }
 {
     match shelves.get(word) {
@@ -27,7 +28,7 @@ pub(crate) fn find<'a>(shelves: &'a Shelves, word: &str, name: &str) -> Option<&
 }
 
 /// Takes the object of this name off the shelf of this word. It takes no memory.
-pub(crate) fn take(shelves: &mut Shelves, word: &str, name: &str) -> Option<Tree>
+pub(crate) fn take(shelves: &mut Shelves, word: &str, name: &str) -> Option<CompactJson>
     ensures taken { result ≡ on_shelf shelves.old word.now name.now }
     ensures left { (other : List ℕ) → (its : List ℕ) →
         on_shelf shelves.new other its ≡ cond (bytes_eq word.now other && bytes_eq name.now its) None (on_shelf shelves.old other its) }
@@ -39,7 +40,7 @@ pub(crate) fn take(shelves: &mut Shelves, word: &str, name: &str) -> Option<Tree
     taken
 }
 
-fn take_off(shelves: &mut Shelves, word: &str, name: &str) -> Option<Tree>
+fn take_off(shelves: &mut Shelves, word: &str, name: &str) -> Option<CompactJson>
     ensures taken { result ≡ on_shelf shelves.old word.now name.now }
     ensures left { (other : List ℕ) → (its : List ℕ) →
         on_shelf shelves.new other its ≡ cond (bytes_eq word.now other && bytes_eq name.now its) None (on_shelf shelves.old other its) }
@@ -115,13 +116,13 @@ fn add_shelf(
 }
 
 /// Puts an object on the shelf of this word. It takes no memory.
-pub(crate) fn put_on(shelves: &mut Shelves, word: &str, name: String, tree: Tree)
+pub(crate) fn put_on(shelves: &mut Shelves, word: &str, name: String, object: CompactJson)
     requires { HasRoom shelves.old word.now }
     ensures { (other : List ℕ) → (its : List ℕ) →
-        on_shelf shelves.new other its ≡ cond (bytes_eq word.now other && bytes_eq (string_bytes name) its) (Some tree) (on_shelf shelves.old other its) }
+        on_shelf shelves.new other its ≡ cond (bytes_eq word.now other && bytes_eq (string_bytes name) its) (Some object) (on_shelf shelves.old other its) }
 {
     if let Some(shelf) = shelves.get_mut(word) {
-        drop(shelf.insert(name, tree));
+        drop(shelf.insert(name, object));
     }
 }
 
@@ -190,21 +191,21 @@ fn add_copies(alloc: Global, shelf: &Shelf, made: &mut Shelf) -> Result<(), NoMe
     requires { made.old.entries ≡ [] }
     ensures { OnOk result ((name : List ℕ) → get_by_text made.new name ≡ get_by_text shelf.now name) }
 {
-    for (name, tree) in shelf {
+    for (name, object) in shelf {
         keep(
             made,
             String::from_str(alloc, name.as_str())?,
-            tree.copy(alloc)?,
+            object.copy(alloc)?,
         )?;
     }
     Ok(())
 }
 
-fn keep(shelf: &mut Shelf, name: String, tree: Tree) -> Result<(), NoMemory>
+fn keep(shelf: &mut Shelf, name: String, object: CompactJson) -> Result<(), NoMemory>
     ensures { OnOk result ((other : List ℕ) →
-        get_by_text shelf.new other ≡ cond (bytes_eq (string_bytes name) other) (Some tree) (get_by_text shelf.old other)) }
+        get_by_text shelf.new other ≡ cond (bytes_eq (string_bytes name) other) (Some object) (get_by_text shelf.old other)) }
 {
-    drop(shelf.insert(name, tree)?);
+    drop(shelf.insert(name, object)?);
     Ok(())
 }
 

@@ -2,6 +2,7 @@
 ghost use Rattle.std.specs.Prelude.{◌≡◌, ◌+◌, ◌<◌};
 
 use access_lists::{Acl, Container, starting_list};
+use compact_json::CompactJson;
 use doc_tree::{Kind, NoMemory, Number, Steps, Text, Texts, Tree};
 use object_store::{Key, Objects};
 use std::alloc::Global;
@@ -38,16 +39,20 @@ fn reads<L: Ledger>(objects: &Objects, node: &Key, blank: Blank) -> bool
 
 fn put(alloc: Global, objects: &mut Objects, kind: Kind, name: &str) -> Result<(), NoMemory> {
     objects.reserve(1)?;
-    objects.put(key(alloc, kind, name)?, Tree::Null);
+    objects.put(key(alloc, kind, name)?, null(alloc)?);
     Ok(())
+}
+
+fn null(alloc: Global) -> Result<CompactJson, NoMemory> {
+    CompactJson::of(alloc, &Tree::Null)
 }
 
 fn put_two(alloc: Global, objects: &mut Objects) -> Result<(), NoMemory> {
     objects.reserve(2)?;
     let item = key(alloc, Kind::Item, "keys/a")?;
     let node = key(alloc, Kind::Node, "db")?;
-    objects.put(item, Tree::Null);
-    objects.put(node, Tree::Null);
+    objects.put(item, null(alloc)?);
+    objects.put(node, null(alloc)?);
     Ok(())
 }
 
@@ -74,14 +79,10 @@ fn take_some(alloc: Global, objects: &mut Objects) -> Result<(), NoMemory> {
     take(alloc, objects, Kind::Item, "users/a/b")
 }
 
-fn is_null(tree: &Option<Tree>) -> bool {
-    matches!(tree, Some(Tree::Null))
-}
-
-fn is_five(tree: &Option<Tree>) -> bool {
-    match tree {
-        Some(Tree::Whole(number)) => *number == Number::from(5u64),
-        _ => false,
+fn is(object: &Option<CompactJson>, text: &str) -> bool {
+    match object {
+        Some(object) => object.as_bytes() == text.as_bytes(),
+        None => false,
     }
 }
 
@@ -90,9 +91,10 @@ fn gives_back(alloc: Global, objects: &mut Objects) -> Result<bool, NoMemory> {
     objects.reserve(1)?;
     let node = key(alloc, Kind::Node, "web1")?;
     let same = node.copy(alloc)?;
-    let before = objects.put(same, Tree::Whole(Number::from(5u64)));
+    let five = CompactJson::of(alloc, &Tree::Whole(Number::from(5u64)))?;
+    let before = objects.put(same, five);
     let after = objects.take_out(&node);
-    Ok(is_null(&before) && is_five(&after))
+    Ok(is(&before, "null") && is(&after, "5"))
 }
 
 fn looks(alloc: Global, objects: &Objects) -> Result<bool, NoMemory> {
@@ -266,10 +268,17 @@ fn add_list(told: &mut String, acl: &Option<Acl>) -> Result<(), NoMemory> {
     }
 }
 
-fn add_body(told: &mut String, tree: &Option<Tree>) -> Result<(), NoMemory> {
-    match tree {
-        Some(Tree::Words(text)) => Ok(told.push_str(text.as_str())?),
-        _ => Ok(told.push_str("none")?),
+fn add_body(
+    alloc: Global,
+    told: &mut String,
+    object: &Option<CompactJson>,
+) -> Result<(), NoMemory> {
+    match object {
+        Some(object) => match object.tree(alloc)? {
+            Tree::Words(text) => Ok(told.push_str(text.as_str())?),
+            _ => Ok(told.push_str("no text")?),
+        },
+        None => Ok(told.push_str("none")?),
     }
 }
 
@@ -284,8 +293,9 @@ fn put_body(
     let (name, body) = first_word(rest);
     objects.reserve(1)?;
     let key = key(alloc, kind, name)?;
-    let body = Text::from_str(alloc, body)?;
-    add_body(told, &objects.put(key, Tree::Words(body)))
+    let body = Tree::Words(Text::from_str(alloc, body)?);
+    let object = CompactJson::of(alloc, &body)?;
+    add_body(alloc, told, &objects.put(key, object))
 }
 
 // `list KIND NAME CREATOR`, and the creator in the list that was there.
@@ -307,7 +317,7 @@ fn put_list(
 fn put_both(alloc: Global, objects: &mut Objects, kind: Kind, rest: &str) -> Result<(), NoMemory> {
     let (name, creator) = first_word(rest);
     objects.reserve(2)?;
-    objects.put(key(alloc, kind, name)?, Tree::Null);
+    objects.put(key(alloc, kind, name)?, null(alloc)?);
     let same = key(alloc, kind, name)?;
     objects.put_acl(same, list_of(alloc, creator)?);
     Ok(())
@@ -322,7 +332,7 @@ fn take_body(
     name: &str,
 ) -> Result<(), NoMemory> {
     let key = key(alloc, kind, name)?;
-    add_body(told, &objects.take_out(&key))
+    add_body(alloc, told, &objects.take_out(&key))
 }
 
 // `unlist KIND NAME`, and the creator in the list that was there.

@@ -34,7 +34,7 @@ fn object_said(alloc: Global, kind: Kind, name: Option<&Name>, tree: &Tree) -> R
     ensures { Tells result (spec.object_said kind (option_copied name.entry) (Ok (doc_of tree.now))) }
 {
     match read_object(alloc, kind, tree, name) {
-        Ok(object) => Ok(Stored::of(object)),
+        Ok(object) => Ok(Stored::of(alloc, object)?),
         Err(FormFault::BadField(field)) => Err(Stop::Refused(Refusal::BadField(field))),
         Err(FormFault::NoMemory) => Err(Stop::NoMemory),
     }

@@ -1,7 +1,6 @@
 //! The state of one organisation, as it is kept.
 
-ghost use Rattle.std.specs.Prelude.{◌≡◌, ◌+◌, ◌≤◌, None, Some, cond, is_some, true, IfOk, OnOk, option_copied, option_map};
-ghost use Rattle.doc_tree.specs.Tree.{doc_of};
+ghost use Rattle.std.specs.Prelude.{◌≡◌, ◌+◌, ◌≤◌, None, Some, cond, is_some, true, IfOk, OnOk, option_copied};
 ghost use Rattle.doc_tree.specs.Valid.{InOrder};
 ghost use Rattle.object_store.specs.Items.{ids_in, item_name};
 ghost use Rattle.object_store.specs.Objects.{names_in};
@@ -21,7 +20,8 @@ use crate::comers::Comer;
 use crate::file_moves::make_on_files;
 use crate::moves::{Move, Moves, files_put_in, puts_in, shelved_by};
 use access_lists::Acl;
-use doc_tree::{Kind, NoMemory, Steps, Text, Texts, Tree};
+use compact_json::CompactJson;
+use doc_tree::{Kind, NoMemory, Steps, Text, Texts};
 use membership::{Groups, MemberKind};
 use object_store::{Key, Objects};
 use org_shelves::{Cookbooks, OrgShelves, make_on_shelves};
@@ -169,16 +169,16 @@ impl OrgState {
     }
 
     /// The object of this kind and name. It is looked at in one step.
-    pub fn look_up<L: Ledger>(&self, kind: Kind, name: &str, steps: &mut Steps<L>) -> Option<&Tree>
-        ensures object { option_map (λ t. doc_of t.now) result ≡ object_in (state_in self.now) kind name.now }
+    pub fn look_up<L: Ledger>(&self, kind: Kind, name: &str, steps: &mut Steps<L>) -> Option<&CompactJson>
+        ensures object { option_copied result ≡ object_in (state_in self.now) kind name.now }
         ensures looked { steps.new ≡ steps.old + 1 }
     {
         self.objects().look_up(kind, name, steps)
     }
 
     /// The item of this id in this bag. It is looked at in one step.
-    pub fn item<L: Ledger>(&self, bag: &str, id: &str, steps: &mut Steps<L>) -> Option<&Tree>
-        ensures object { option_map (λ t. doc_of t.now) result ≡ object_in (state_in self.now) kinds.Item (item_name bag.now id.now) }
+    pub fn item<L: Ledger>(&self, bag: &str, id: &str, steps: &mut Steps<L>) -> Option<&CompactJson>
+        ensures object { option_copied result ≡ object_in (state_in self.now) kinds.Item (item_name bag.now id.now) }
         ensures looked { steps.new ≡ steps.old + 1 }
     {
         self.objects().item(bag, id, steps)
@@ -381,7 +381,7 @@ fn make_there(
 {
     match one {
         Move::Open => {}
-        Move::Put(key, object) => drop(objects.put(key, object.into_tree())),
+        Move::Put(key, object) => drop(objects.put(key, object.into_text())),
         Move::TakeOut(key) => drop(objects.take_out(&key)),
         Move::PutList(key, list) => drop(objects.put_acl(key, list)),
         Move::TakeList(key) => drop(objects.take_acl(&key)),

@@ -6,6 +6,7 @@ ghost use Rattle.org_requests.specs.Replies.{shown as spec_shown};
 
 use crate::moves::Moves;
 use crate::rules::Prepared;
+use compact_json::CompactJson;
 use doc_tree::{NoMemory, Tree};
 use org_requests::{Reply, Stop, shown};
 use std::alloc::Global;
@@ -17,6 +18,17 @@ pub fn reply_showing(alloc: Global, tree: Tree) -> Result<Reply, NoMemory>
     let reply = shown(alloc, &tree);
     drop(tree);
     reply
+}
+
+/// 200 with an object, whose text is copied.
+pub fn reply_copying(alloc: Global, object: &CompactJson) -> Result<Reply, NoMemory>
+    ensures { IfOk result (λ reply. reply ≡ spec_shown object.now) }
+{
+    Ok(Reply {
+        status: 200,
+        octets: false,
+        body: object.bytes(alloc)?,
+    })
 }
 
 /// 200 with a tree, which ends here, and no move.

@@ -1,16 +1,20 @@
 //! An object as it is stored.
 
-ghost use Rattle.std.specs.Prelude.{◌≡◌, option_map};
+ghost use Rattle.std.specs.Prelude.{◌≡◌, IfOk, option_map};
 ghost use Rattle.doc_tree.specs.Tree.{doc_of};
 ghost use Rattle.org_core.specs.Named as spec;
 
-use doc_tree::Tree;
+use compact_json::CompactJson;
+use doc_tree::{NoMemory, Tree};
+use std::alloc::Global;
 use std::marker::Model;
 
-/// The tree of an object as it is stored. Contracts see its document.
+/// An object as it is stored: its text, which is made once for the state and the reply, beside the tree that it was made
+/// of, by which its parts are read. Contracts see its document.
 #[derive(Drop)]
 pub struct Stored {
     tree: Tree,
+    text: CompactJson,
 }
 
 impl Model for Stored {
@@ -20,17 +24,26 @@ impl Model for Stored {
 
     ghost coded = { doc_code };
 
+    ghost use Rattle.std.specs.Prelude.{◌≡◌};
     ghost use Rattle.doc_tree.specs.Tree.{doc_of};
 
-    ghost view = { λ s. doc_of s.tree };
+    ghost view = { λ s. s.text };
+
+    ghost invariant = { λ s. doc_of s.tree ≡ s.text };
 }
 
 impl Stored {
-    /// The object that a tree is, which is moved.
-    pub fn of(tree: Tree) -> Stored
-        ensures { result ≡ doc_of tree }
+    /// The object that a tree is, which is moved. `NoMemory` where there is none for its text.
+    pub fn of(alloc: Global, tree: Tree) -> Result<Stored, NoMemory>
+        ensures { IfOk result (λ stored. stored ≡ doc_of tree) }
     {
-        Stored { tree }
+        match CompactJson::of(alloc, &tree) {
+            Ok(text) => Ok(Stored { tree, text }),
+            Err(fault) => {
+                drop(tree);
+                Err(fault)
+            }
+        }
     }
 
     /// Its tree.
@@ -40,12 +53,20 @@ impl Stored {
         &self.tree
     }
 
-    /// Its tree, which is moved out.
-    pub fn into_tree(self) -> Tree
-        ensures { doc_of result ≡ self }
+    /// Its text.
+    pub fn text(&self) -> &CompactJson
+        ensures { result.now ≡ self.now }
     {
-        let Stored { tree } = self;
-        tree
+        &self.text
+    }
+
+    /// Its text, which is moved out.
+    pub fn into_text(self) -> CompactJson
+        ensures { result ≡ self }
+    {
+        let Stored { tree, text } = self;
+        drop(tree);
+        text
     }
 }
 

@@ -7,6 +7,7 @@ ghost use Rattle.search_query.specs.Partial as spec;
 use crate::fault::{PartialFault, bad_field};
 use crate::parts::value_at;
 use crate::paths::path_of;
+use compact_json::CompactJson;
 use doc_tree::{Field, Fields, Kind, Listed, NoMemory, Text, Texts, Tree};
 use std::alloc::Global;
 use std::marker::Model;
@@ -66,9 +67,16 @@ impl Partial {
     ///
     /// A value is looked up by its path. In a node, and only there, the first that isn't null in the parts `automatic`,
     /// `override`, `normal` and `default` counts, in this order; where these have none, and in every other object, it is
-    /// looked up in the object itself. What isn't found is null. Want of memory is the one refusal.
-    pub fn row(&self, alloc: Global, kind: Kind, object: &Tree, url: Text) -> Result<Tree, NoMemory>
-        ensures { IfOk result (λ row. doc_of row ≡ spec.partial_row kind self.now url (doc_of object.now)) }
+    /// looked up in the object itself. What isn't found is null. The parts that it shows alone
+    /// are made trees, and the rest of the object's text is gone over. Want of memory is the one refusal.
+    pub fn row(
+        &self,
+        alloc: Global,
+        kind: Kind,
+        object: &CompactJson,
+        url: Text,
+    ) -> Result<Tree, NoMemory>
+        ensures { IfOk result (λ row. doc_of row ≡ spec.partial_row kind self.now url object.now) }
     {
         let values = self.values(alloc, kind, object)?;
         let mut fields = Fields::with_capacity(alloc, 2)?;
@@ -77,8 +85,13 @@ impl Partial {
         Ok(Tree::Dict(fields))
     }
 
-    fn values(&self, alloc: Global, kind: Kind, object: &Tree) -> Result<Fields, NoMemory>
-        ensures { IfOk result (λ values. values ≡ spec.data_of kind self.now (doc_of object.now)) }
+    fn values(
+        &self,
+        alloc: Global,
+        kind: Kind,
+        object: &CompactJson,
+    ) -> Result<Fields, NoMemory>
+        ensures { IfOk result (λ values. values ≡ spec.data_of kind self.now object.now) }
     {
         let mut values = Fields::with_capacity(alloc, self.wanted.len())?;
         for (key, path) in self.wanted.as_slice() {

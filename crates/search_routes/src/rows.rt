@@ -1,6 +1,6 @@
 //! The page that shows what a search finds.
 
-ghost use Rattle.std.specs.Prelude.{◌≡◌, ◌+◌, IfOk, length, map, option_map, unwrap_or};
+ghost use Rattle.std.specs.Prelude.{◌≡◌, ◌+◌, IfOk, length, map, option_copied, unwrap_or};
 ghost use Rattle.doc_tree.specs.Doc.{null};
 ghost use Rattle.doc_tree.specs.Tree.{doc_of};
 ghost use Rattle.doc_tree.specs.Written.{text};
@@ -13,6 +13,7 @@ ghost use Rattle.org_core.specs.States.{objects_of};
 ghost use Rattle.search_routes.specs.Finding as spec;
 
 use crate::operations::Search;
+use compact_json::CompactJson;
 use doc_tree::{Bytes, NoMemory, Steps, Text, Tree, json_text};
 use object_finder::Index;
 use org_core::{Context, Moves, Prepared};
@@ -92,19 +93,19 @@ fn look_up<'c, L: Ledger>(
     index: &Index,
     name: &str,
     steps: &mut Steps<L>,
-) -> Option<&'c Tree>
-    ensures object { option_map (λ t. doc_of t.now) result ≡ object_at index.now (objects_of (seen context.entry).state) name.now }
+) -> Option<&'c CompactJson>
+    ensures object { option_copied result ≡ object_at index.now (objects_of (seen context.entry).state) name.now }
     ensures looked { steps.new ≡ steps.old + 1 }
 {
     object_finder::look_up(context.state.objects(), index, name, steps)
 }
 
-// The text of the row that shows the whole object. One that was found is there.
-fn whole(alloc: Global, object: Option<&Tree>) -> Result<Bytes, NoMemory>
-    ensures { IfOk result (λ row. row ≡ text (unwrap_or (option_map (λ t. doc_of t.now) object.entry) null)) }
+// The text of the row that shows the whole object, which is copied. One that was found is there.
+fn whole(alloc: Global, object: Option<&CompactJson>) -> Result<Bytes, NoMemory>
+    ensures { IfOk result (λ row. row ≡ text (unwrap_or (option_copied object.entry) null)) }
 {
     match object {
-        Some(object) => json_text(alloc, object),
+        Some(object) => object.bytes(alloc),
         None => json_text(alloc, &Tree::Null),
     }
 }
@@ -116,14 +117,14 @@ fn part(
     index: &Index,
     partial: &Partial,
     name: &str,
-    object: Option<&Tree>,
+    object: Option<&CompactJson>,
 ) -> Result<Tree, NoMemory>
-    ensures { IfOk result (λ row. doc_of row ≡ partial_row (kind_of index.now) partial.now (spec.path_of org.now index.now name.now) (unwrap_or (option_map (λ t. doc_of t.now) object.entry) null)) }
+    ensures { IfOk result (λ row. doc_of row ≡ partial_row (kind_of index.now) partial.now (spec.path_of org.now index.now name.now) (unwrap_or (option_copied object.entry) null)) }
 {
     let path = path_of(alloc, org, index, name)?;
     match object {
         Some(object) => partial.row(alloc, index.kind(), object, path),
-        None => partial.row(alloc, index.kind(), &Tree::Null, path),
+        None => partial.row(alloc, index.kind(), &CompactJson::of(alloc, &Tree::Null)?, path),
     }
 }
 

@@ -1,6 +1,7 @@
 //! What queries find among worked objects.
 ghost use Rattle.std.specs.Prelude.{◌≡◌, ◌<◌};
 
+use compact_json::CompactJson;
 use doc_tree::{Kind, NoMemory, Steps, Text, Texts, read_json};
 use object_finder::{Index, find, names_of};
 use object_store::{Key, Objects};
@@ -84,9 +85,9 @@ fn put(alloc: Global, objects: &mut Objects, line: &str) -> Result<(), Fail> {
     let (name, text) = split(rest);
     let kind = kind_of(kind);
     let name = Text::from_str(alloc, name)?;
-    let tree = read_json(alloc, text.as_bytes())?;
+    let object = CompactJson::of(alloc, &read_json(alloc, text.as_bytes())?)?;
     objects.reserve(1)?;
-    objects.put(Key { kind, name }, tree);
+    objects.put(Key { kind, name }, object);
     Ok(())
 }
 

@@ -1,4 +1,5 @@
 //! What no clause of `search_query` says of rows and pages: that the calls succeed, and that the definitions are those of the product.
+use compact_json::CompactJson;
 use doc_tree::{Kind, Text, Tree, json_text, read_json};
 use search_query::{Partial, PartialFault, page_text, shown};
 use std::alloc::Global;
@@ -54,7 +55,7 @@ fn written(alloc: Global, tree: &Tree) -> Result<String, Fail> {
 }
 
 fn row_told(alloc: Global, kind: &str, partial: &Partial) -> Result<String, Fail> {
-    let object = read_json(alloc, OBJECT.as_bytes())?;
+    let object = CompactJson::of(alloc, &read_json(alloc, OBJECT.as_bytes())?)?;
     let kind = if kind == "node" {
         Kind::Node
     } else {

@@ -1,8 +1,7 @@
 -- The pairs that were made list the same as those of the definition.
-use Rattle.doc_tree.specs.Tree.{doc_of}
 use Rattle.search_query.specs.Pairs.{pairs_of}
 use Rattle.object_finder.proofs.FoundLemmas.{told}
 use Rattle.object_finder.proofs.found.finds.Goals as goal
 
 pub returns : goal.returns
-returns c = told c.args.query.now c.in_ok-pairs.pairs (pairs_of c.args.kind (doc_of c.args.object.now)) c.matches.result c.in_ok-pairs.ensures.members c.matches.ensures
+returns c = told c.args.query.now c.in_ok-pairs.pairs (pairs_of c.args.kind c.args.object.now) c.matches.result c.in_ok-pairs.ensures.members c.matches.ensures

@@ -1,14 +1,14 @@
 use Rattle.std.proofs.Common.{◌≡◌, ◌||◌, List, ℕ, Option, Some, None, not, is_some, bytes_eq, option_copied, ap, sym, refl, ◌∙◌}
 use Rattle.std.specs.Borrow.{Bor}
 use Rattle.doc_tree.specs.declared.kind.Kind.TheVariants as kind
-use Rattle.doc_tree.specs.declared.tree.Tree.{Tree}
+use Rattle.doc_tree.specs.Doc.{Doc}
 use Rattle.object_store.specs.Keys.{key}
 use Rattle.object_store.specs.Kept.{has, settled}
 use Rattle.object_store.specs.Shelving.{key_at}
 use Rattle.object_store.proofs.FoundLemmas.{added-where, added-not}
 use Rattle.object_store.proofs.items.add_item.Goals as goal
 
-there : (r : Option (Bor Tree)) → is_some r ≡ is_some (option_copied r)
+there : (r : Option (Bor Doc)) → is_some r ≡ is_some (option_copied r)
 there None = refl
 there (Some x) = refl
 

@@ -15,7 +15,7 @@ returns-in-Some c =
     let now = c.insert.new.self in
     let had : get_by_text old c.args.word.now ≡ Some was = sym c.get_mut.ensures.value ∙ ap option_copied_mut c.in-Some.is in
     let room : 0 < spare was = subst (λ (shelf : Shelf). 0 < spare shelf) (some-same c.requires.0 was (sym c.requires.1 ∙ had)) c.requires.2 in
-    on_shelf-changed old (c.get_mut.follows.lender now) c.args.word.now was now (string_bytes c.args.name) (Some c.args.tree)
+    on_shelf-changed old (c.get_mut.follows.lender now) c.args.word.now was now (string_bytes c.args.name) (Some c.args.object)
     (hash_map_updates_text c.args.word.now old (c.get_mut.follows.lender now) (Some now) ((c.get_mut.follows.holds now).3 (search rules)))
     had
-    (hash_map_updates_text (string_bytes c.args.name) was now (Some c.args.tree) (of_ok c.insert.result (c.insert.ensures.succeeds room) c.insert.ensures.updates))
+    (hash_map_updates_text (string_bytes c.args.name) was now (Some c.args.object) (of_ok c.insert.result (c.insert.ensures.succeeds room) c.insert.ensures.updates))

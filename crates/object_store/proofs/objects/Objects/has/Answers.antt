@@ -7,7 +7,7 @@ use Rattle.object_store.proofs.ObjectsLemmas.{is_found}
 use Rattle.object_store.proofs.ViewLemmas.{get-objects_in}
 use Rattle.object_store.proofs.objects.Objects.has.Goals as goal
 
--- the map that is seen has a document where a tree is found
+-- the map that is seen has a document where an object is found
 pub returns : goal.returns
 returns c =
     let late = c.self.inside.late in

@@ -1,6 +1,5 @@
 use Rattle.std.proofs.Common.{◌<◌, option_map, sym, ap, subst, ◌∙◌, arith}
 use Rattle.std.specs.FinMap as finite
-use Rattle.doc_tree.specs.Tree.{doc_of}
 use Rattle.indexmap.specs.IndexMap.{spare}
 use Rattle.object_store.specs.Objects.{Store, smaller}
 use Rattle.object_store.proofs.ObjectsLemmas.{of_ok}
@@ -17,15 +16,15 @@ returns-clause-objects c =
     let both : 0 < smaller (spare late) c.self.inside.lists.spare = subst (λ (v : Store). 0 < v.spare) (sym c.self.view_is) c.requires in
     let had : 0 < spare late = room_left (spare late) c.self.inside.lists.spare both in
     let room : 0 < spare c.take_from-before.new.late = omega (arith, had, c.take_from-before.ensures.spare) in
-    objects_in-insert late c.insert.new.self shelves c.take_from-before.new.shelves c.args.key c.args.tree
-    (found-put late c.take_from-before.new.late c.insert.new.self shelves c.take_from-before.new.shelves c.args.key c.args.tree
+    objects_in-insert late c.insert.new.self shelves c.take_from-before.new.shelves c.args.key c.args.object
+    (found-put late c.take_from-before.new.late c.insert.new.self shelves c.take_from-before.new.shelves c.args.key c.args.object
     c.take_from-before.ensures.left
     (of_ok c.insert.result (c.insert.ensures.succeeds room) c.insert.ensures.updates).0)
-    ∙ ap (λ (v : Store). finite.insert v.objects c.args.key (doc_of c.args.tree)) c.self.view_is
+    ∙ ap (λ (v : Store). finite.insert v.objects c.args.key c.args.object) c.self.view_is
 
--- and the tree that was kept is given back
+-- and the object that was kept is given back
 pub returns-clause-before : goal.returns-clause-before
 returns-clause-before c =
-    ap (option_map doc_of) c.take_from-before.ensures.taken
+    c.take_from-before.ensures.taken
     ∙ sym (get-objects_in c.self.inside.late c.self.inside.shelves c.args.key)
     ∙ ap (λ (v : Store). finite.get v.objects c.args.key) c.self.view_is

@@ -1,6 +1,5 @@
 use Rattle.std.proofs.Common.{option_map, sym, ap, ◌∙◌}
 use Rattle.std.specs.FinMap as finite
-use Rattle.doc_tree.specs.Tree.{doc_of}
 use Rattle.object_store.specs.Objects.{Store}
 use Rattle.object_store.proofs.ViewLemmas.{objects_in-remove, get-objects_in}
 use Rattle.object_store.proofs.objects.Objects.take_out.Goals as goal
@@ -11,9 +10,9 @@ returns-clause-objects c =
     objects_in-remove c.self.inside.late c.take_from.new.late c.self.inside.shelves c.take_from.new.shelves c.args.key.now c.take_from.ensures.left
     ∙ ap (λ (v : Store). finite.remove v.objects c.args.key.now) c.self.view_is
 
--- the tree that was kept is given back
+-- the object that was kept is given back
 pub returns-clause-taken : goal.returns-clause-taken
 returns-clause-taken c =
-    ap (option_map doc_of) c.take_from.ensures.taken
+    c.take_from.ensures.taken
     ∙ sym (get-objects_in c.self.inside.late c.self.inside.shelves c.args.key.now)
     ∙ ap (λ (v : Store). finite.get v.objects c.args.key.now) c.self.view_is
