@@ -1,6 +1,6 @@
 -- The document that a JSON text spells (RFC 8259), however deep it nests.
-use Rattle.std.specs.Prelude.{◌≡◌, ℕ, List, length, unwrap_or, option_and_then}
-use Rattle.json.specs.Json.{if_last, value}
+use Rattle.std.specs.Prelude.{◌≡◌, ℕ, List, length, unwrap_or, option_and_then, option_map}
+use Rattle.json.specs.Json.{value}
 use Rattle.json.specs.Lex.{tokens}
 use Rattle.json.specs.Token.{Token}
 use Rattle.serde_json.specs.Read.{of_json}
@@ -9,13 +9,14 @@ use Rattle.doc_tree.specs.Doc.{Doc, null}
 use Rattle.doc_tree.specs.Valid.{IsDoc}
 use Rattle.doc_tree.specs.Written.{text}
 
--- The document that tokens spell, and `null` where they spell none. They nest at most as deep as there are tokens.
-abbrev pub spelled_by : List Token → Doc
-spelled_by ts = unwrap_or (option_and_then doc_in (option_and_then of_json (option_and_then (λ p. if_last p.0 p.1) (value (length ts) ts)))) null
+-- The document that these tokens begin with, and `null` where they begin with none. It nests at most as deep as there
+-- are tokens.
+abbrev pub first_doc : List Token → Doc
+first_doc ts = unwrap_or (option_and_then doc_in (option_and_then of_json (option_map (λ p. p.0) (value (length ts) ts)))) null
 
 -- the document that bytes spell, and `null` where they spell none
 abbrev pub spelled : List ℕ → Doc
-spelled bytes = spelled_by (tokens bytes)
+spelled bytes = first_doc (tokens bytes)
 
 -- these bytes are the compact text of the document that they spell
 pub record IsCompact (bytes : List ℕ) : Type 0 where

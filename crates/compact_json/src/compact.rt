@@ -5,7 +5,10 @@ ghost use Rattle.doc_tree.specs.Valid.{IsDoc};
 ghost use Rattle.doc_tree.specs.Written.{text};
 ghost use Rattle.std.specs.Prelude.{◌≡◌, IfOk, option_map};
 
+use crate::find::goes_to;
+use crate::read::read_doc;
 use doc_tree::{Bytes, NoMemory, Text, Tree, json_text};
+use json::{Reader, Scratch};
 use std::alloc::Global;
 use std::marker::Model;
 
@@ -76,22 +79,22 @@ impl CompactJson {
     pub fn tree(&self, alloc: Global) -> Result<Tree, NoMemory>
         ensures { IfOk result (λ tree. doc_of tree ≡ self.now) }
     {
-        let whole = self.bytes(alloc)?;
-        drop(whole);
-        Err(NoMemory)
+        let mut scratch = Scratch::new(alloc);
+        let mut reader = Reader::new(self.written.as_str(), &mut scratch)?;
+        read_doc(alloc, &mut reader)
     }
 
     /// The tree of the part at a path of keys, or `None` exactly where there is none. The empty path is the whole
-    /// document. The rest of the document is passed over, without memory.
+    /// document. Of the rest no tree is made: it is passed over as text.
     pub fn part(&self, alloc: Global, path: &[Text]) -> Result<Option<Tree>, NoMemory>
         ensures { IfOk result (λ part. option_map doc_of part ≡ at path.now self.now) }
     {
-        let whole = self.bytes(alloc)?;
-        drop(whole);
-        if path.is_empty() {
-            return Err(NoMemory);
+        let mut scratch = Scratch::new(alloc);
+        let mut reader = Reader::new(self.written.as_str(), &mut scratch)?;
+        if !goes_to(&mut reader, path, self.written.len()) {
+            return Ok(None);
         }
-        Err(NoMemory)
+        Ok(Some(read_doc(alloc, &mut reader)?))
     }
 }
 
