@@ -1,2 +1,4 @@
-pub mod Spelled
-pub mod Standing
+pub mod Compact
+pub mod Next
+pub mod Whole
+pub mod Find

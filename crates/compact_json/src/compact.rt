@@ -21,7 +21,7 @@ pub struct CompactJson {
 impl Model for CompactJson {
     ghost use Rattle.doc_tree.specs.Doc.{Doc};
     ghost use Rattle.doc_tree.specs.DocCode.{doc_code};
-    ghost use Rattle.compact_json.specs.Spelled.{spelled, IsCompact};
+    ghost use Rattle.compact_json.specs.Compact.{spelled, IsCompact};
 
     ghost Value = { Doc };
 
@@ -75,7 +75,7 @@ impl CompactJson {
         let _written = self.written.as_str();
     }
 
-    /// The tree of the document.
+    /// The tree of the document. Beside it this takes room as long as the text, while it reads.
     pub fn tree(&self, alloc: Global) -> Result<Tree, NoMemory>
         ensures { IfOk result (λ tree. doc_of tree ≡ self.now) }
     {
@@ -85,7 +85,8 @@ impl CompactJson {
     }
 
     /// The tree of the part at a path of keys, or `None` exactly where there is none. The empty path is the whole
-    /// document. Of the rest no tree is made: it is passed over as text.
+    /// document. Of the rest no tree is made: it is passed over as text. Beside the tree this takes room as long as the
+    /// text, while it reads.
     pub fn part(&self, alloc: Global, path: &[Text]) -> Result<Option<Tree>, NoMemory>
         ensures { IfOk result (λ part. option_map doc_of part ≡ at path.now self.now) }
     {
@@ -105,7 +106,6 @@ fn written(alloc: Global, tree: &Tree) -> Result<Text, NoMemory>
     let bytes = json_text(alloc, tree)?;
     match str::from_utf8(bytes.as_slice()) {
         Ok(written) => Text::from_str(alloc, written),
-        // Not reached: the text of a tree is UTF-8.
-        Err(_) => Err(NoMemory),
+        Err(_) => unreachable!(),
     }
 }

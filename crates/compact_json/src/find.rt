@@ -1,6 +1,7 @@
 //! Finding a part in the tokens of a document's text.
-ghost use Rattle.compact_json.specs.Spelled.{first_doc};
-ghost use Rattle.compact_json.specs.Standing.{AtDoc, FindsPart};
+ghost use Rattle.compact_json.specs.Compact.{first_doc};
+ghost use Rattle.compact_json.specs.Find.{FindsPart};
+ghost use Rattle.compact_json.specs.Next.{AtDoc};
 ghost use Rattle.doc_tree.specs.Part.{at, part_at};
 ghost use Rattle.std.specs.Prelude.{◌≤◌, length};
 

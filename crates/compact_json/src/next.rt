@@ -1,6 +1,6 @@
 //! The next tokens of a document's text.
-ghost use Rattle.compact_json.specs.Standing.{AtDoc, AtPairs, begins_value, begins_object};
-ghost use Rattle.compact_json.specs.Spelled.{first_doc};
+ghost use Rattle.compact_json.specs.Next.{AtDoc, AtPairs, begins_value, begins_object};
+ghost use Rattle.compact_json.specs.Compact.{first_doc};
 ghost use Rattle.doc_tree.specs.Tokens.{doc_tokens};
 ghost use Rattle.json.specs.Json.{read_key};
 ghost use Rattle.json.specs.Reads.{token_of};

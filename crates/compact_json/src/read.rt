@@ -1,6 +1,6 @@
 //! Reading trees from the tokens of a document's text.
-ghost use Rattle.compact_json.specs.Spelled.{first_doc};
-ghost use Rattle.compact_json.specs.Standing.{AtDoc, AtDocs, AtDict};
+ghost use Rattle.compact_json.specs.Compact.{first_doc};
+ghost use Rattle.compact_json.specs.Next.{AtDoc, AtDocs, AtDict};
 ghost use Rattle.doc_tree.specs.Doc.{docs_of, pairs_of};
 ghost use Rattle.doc_tree.specs.Tokens.{doc_tokens, docs_tokens, pairs_tokens};
 ghost use Rattle.doc_tree.specs.Tree.{doc_of};

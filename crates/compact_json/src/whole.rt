@@ -1,5 +1,5 @@
 //! The whole numbers of a document's text.
-ghost use Rattle.compact_json.specs.Standing.{IsWholeText};
+ghost use Rattle.compact_json.specs.Whole.{IsWholeText};
 ghost use Rattle.std.specs.Fmt.{signed_decimal};
 ghost use Rattle.std.specs.Prelude.{◌≡◌};
 

@@ -1,8 +1,8 @@
 -- What is at the rest of the path from here is what is at the path.
 use Rattle.std.proofs.Common.{◌≡◌, ◌≤◌, length, drop}
 use Rattle.doc_tree.specs.Part.{at}
-use Rattle.compact_json.specs.Spelled.{first_doc}
-use Rattle.compact_json.specs.Standing.{AtDoc}
+use Rattle.compact_json.specs.Compact.{first_doc}
+use Rattle.compact_json.specs.Next.{AtDoc}
 use Rattle.compact_json.proofs.find.goes_to.Given as goal
 
 abbrev pub invariant-loop-key : goal.invariant-loop-key

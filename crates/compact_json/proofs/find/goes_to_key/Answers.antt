@@ -4,9 +4,9 @@ use Rattle.json.specs.Json.{read_key}
 use Rattle.json.specs.Token.{Token}
 use Rattle.json.proofs.Grammar.{read_key_is}
 use Rattle.doc_tree.specs.Part.{pair_at, part_at}
-use Rattle.compact_json.specs.Spelled.{first_doc}
-use Rattle.compact_json.specs.Standing.{begins_object}
-use Rattle.compact_json.proofs.Standing.{same_rest, shorter, first_is, AtDoc-from, dict-behind, Member, member, no_more, pair_at-here, pair_at-there}
+use Rattle.compact_json.specs.Compact.{first_doc}
+use Rattle.compact_json.specs.Next.{begins_object}
+use Rattle.compact_json.proofs.NextLemmas.{same_rest, shorter, first_is, AtDoc-from, dict-behind, Member, member, no_more, pair_at-here, pair_at-there}
 use Rattle.compact_json.proofs.find.goes_to_key.Goals as goal
 
 pub loop-found-init : goal.loop-found-init

@@ -3,8 +3,8 @@ use Rattle.std.proofs.Common.{◌≡◌, ◌≤◌, length}
 use Rattle.doc_tree.specs.Doc.{Pairs}
 use Rattle.doc_tree.specs.Part.{pair_at, part_at}
 use Rattle.doc_tree.specs.Valid.{ArePairs}
-use Rattle.compact_json.specs.Spelled.{first_doc}
-use Rattle.compact_json.specs.Standing.{PairsAt}
+use Rattle.compact_json.specs.Compact.{first_doc}
+use Rattle.compact_json.specs.Next.{PairsAt}
 use Rattle.compact_json.proofs.find.goes_to_key.Given as goal
 
 abbrev pub invariant-loop-found : goal.invariant-loop-found

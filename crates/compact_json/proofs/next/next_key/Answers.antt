@@ -1,6 +1,6 @@
 -- A key is next, or the brace that closes the dict.
 use Rattle.std.proofs.Common.{arith}
-use Rattle.compact_json.proofs.Standing.{has_key}
+use Rattle.compact_json.proofs.NextLemmas.{has_key}
 use Rattle.compact_json.proofs.next.next_key.Goals as goal
 
 pub unreachable-requires : goal.unreachable-requires

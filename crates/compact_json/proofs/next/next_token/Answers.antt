@@ -1,8 +1,8 @@
 -- A document begins with a token, with which a value may begin.
 use Rattle.std.proofs.Common.{◌≡◌, ◌∷◌, sym, ◌∙◌, arith}
 use Rattle.json.specs.Reads.{token_of}
-use Rattle.compact_json.specs.Spelled.{first_doc}
-use Rattle.compact_json.proofs.Standing.{not_at_end, begins_value-first}
+use Rattle.compact_json.specs.Compact.{first_doc}
+use Rattle.compact_json.proofs.NextLemmas.{not_at_end, begins_value-first}
 use Rattle.compact_json.proofs.next.next_token.Goals as goal
 
 pub unreachable-requires : goal.unreachable-requires

@@ -1,7 +1,7 @@
 -- The reader passes over the document that is next.
 use Rattle.std.proofs.Common.{arith}
-use Rattle.compact_json.specs.Spelled.{first_doc}
-use Rattle.compact_json.proofs.Standing.{skips, not_skipped}
+use Rattle.compact_json.specs.Compact.{first_doc}
+use Rattle.compact_json.proofs.NextLemmas.{skips, not_skipped}
 use Rattle.compact_json.proofs.next.pass.Goals as goal
 
 pub unreachable-requires : goal.unreachable-requires

@@ -9,10 +9,10 @@ use Rattle.json.proofs.Grammar.{closed_array, read_key_is}
 use Rattle.doc_tree.specs.Doc.{pairs_list}
 use Rattle.doc_tree.specs.Tree.{doc_of}
 use Rattle.doc_tree.specs.Valid.{InOrder}
-use Rattle.compact_json.specs.Spelled.{first_doc}
-use Rattle.compact_json.specs.Standing.{AtDoc}
-use Rattle.compact_json.proofs.Reading.{docs_front-more, docs_read, pairs_front-more, pairs_read, InOrder-front, InOrder-more}
-use Rattle.compact_json.proofs.Standing.{same_rest, shorter, AtDoc-from, AtDocs-behind, AtDict-behind, IsWholeText-first, AtDoc-first, AtDocs-later, Member, member}
+use Rattle.compact_json.specs.Compact.{first_doc}
+use Rattle.compact_json.specs.Next.{AtDoc}
+use Rattle.compact_json.proofs.ReadLemmas.{docs_front-more, docs_read, pairs_front-more, pairs_read, InOrder-front, InOrder-more}
+use Rattle.compact_json.proofs.NextLemmas.{same_rest, shorter, AtDoc-from, AtDocs-behind, AtDict-behind, IsWholeText-first, AtDoc-first, AtDocs-later, Member, member}
 use Rattle.compact_json.proofs.read.+read.Goals as goal
 
 pub read_tree-whole_of-requires : goal.read_tree-whole_of-requires

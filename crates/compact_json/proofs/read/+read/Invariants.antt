@@ -3,8 +3,8 @@ use Rattle.std.proofs.Common.{◌≡◌, ◌++◌, ◌+◌, ◌*◌, ◌≤◌, 
 use Rattle.std.specs.Map.{keys_of}
 use Rattle.doc_tree.specs.Doc.{Pairs, pairs_list}
 use Rattle.doc_tree.specs.Valid.{ArePairs, InOrder}
-use Rattle.compact_json.specs.Standing.{AtDocs, PairsAt}
-use Rattle.compact_json.proofs.Reading.{docs_front, pairs_front}
+use Rattle.compact_json.specs.Next.{AtDocs, PairsAt}
+use Rattle.compact_json.proofs.ReadLemmas.{docs_front, pairs_front}
 use Rattle.compact_json.proofs.read.+read.Given as goal
 
 abbrev pub decreases-read_fields : goal.decreases-read_fields

@@ -1,7 +1,7 @@
 -- The tokens that were read begin with the document that the tree is.
 use Rattle.std.proofs.Common.{sym}
 use Rattle.doc_tree.specs.Tree.{doc_of}
-use Rattle.compact_json.proofs.Standing.{first_is}
+use Rattle.compact_json.proofs.NextLemmas.{first_is}
 use Rattle.compact_json.proofs.read.read_doc.Goals as goal
 
 pub returns : goal.returns

@@ -2,7 +2,7 @@
 use Rattle.std.proofs.Common.{◌≡◌, FitsSigned, w64, sym, ap, ◌∙◌, subst}
 use Rattle.std.proofs.lemmas.Int.{to_z-of_z}
 use Rattle.std.specs.Fmt.{signed_decimal}
-use Rattle.compact_json.proofs.Numbers.{unsigned_parsed, signed_parsed, not_both, same_Ok}
+use Rattle.compact_json.proofs.WholeLemmas.{unsigned_parsed, signed_parsed, not_both, same_Ok}
 use Rattle.compact_json.proofs.whole.whole_of.Goals as goal
 
 pub unreachable-requires : goal.unreachable-requires

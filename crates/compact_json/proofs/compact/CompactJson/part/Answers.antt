@@ -2,8 +2,8 @@
 use Rattle.std.proofs.Common.{List, length, sym, ap, ◌∙◌, subst, arith}
 use Rattle.json.specs.Lex.{tokens}
 use Rattle.json.specs.Token.{Token}
-use Rattle.compact_json.specs.Standing.{AtDoc}
-use Rattle.compact_json.proofs.Standing.{AtDoc-text, length-tokens}
+use Rattle.compact_json.specs.Next.{AtDoc}
+use Rattle.compact_json.proofs.NextLemmas.{AtDoc-text, length-tokens}
 use Rattle.compact_json.proofs.compact.CompactJson.part.Goals as goal
 
 pub goes_to-requires-clause-at : goal.goes_to-requires-clause-at

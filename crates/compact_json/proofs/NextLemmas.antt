@@ -17,9 +17,10 @@ use Rattle.doc_tree.specs.Doc.{Doc, null, boolean, whole, words, list, dict, Doc
 use Rattle.doc_tree.specs.Part.{pair_at, part_at}
 use Rattle.doc_tree.specs.Tokens.{doc_tokens, docs_tokens, pairs_tokens}
 use Rattle.doc_tree.specs.Valid.{IsDoc, AreDocs, ArePairs}
-use Rattle.compact_json.specs.Spelled.{first_doc, spelled, IsCompact}
-use Rattle.compact_json.specs.Standing.{AtDoc, AtDocs, PairsAt, AtDict, IsWholeText, begins_value, begins_object}
-use Rattle.compact_json.proofs.Spelling.{depth-json, first_doc-doc_tokens, text-tokens, print-tokens, ArePrintable-doc}
+use Rattle.compact_json.specs.Compact.{first_doc, spelled, IsCompact}
+use Rattle.compact_json.specs.Next.{AtDoc, AtDocs, PairsAt, AtDict, begins_value, begins_object}
+use Rattle.compact_json.specs.Whole.{IsWholeText}
+use Rattle.compact_json.proofs.CompactLemmas.{depth-json, first_doc-doc_tokens, text-tokens, print-tokens, ArePrintable-doc}
 
 -- ---- tokens, told apart
 

@@ -1,12 +1,10 @@
--- Where a reader of a document's text stands, for the private clauses of reading.
-use Rattle.std.specs.Prelude.{◌≡◌, ℕ, ℤ, List, ◌++◌, Bool, true, false, Option, Some, None}
-use Rattle.std.specs.Fmt.{signed_decimal}
+-- What is next in the tokens of a document's text, for the private clauses of reading.
+use Rattle.std.specs.Prelude.{◌≡◌, List, ◌++◌, Bool, true, false}
 use Rattle.json.specs.Token.{Token, begin_object, end_object, begin_array, end_array, key, string, number, boolean, null, bad}
 use Rattle.doc_tree.specs.Doc.{Doc, dict, Docs, Pairs}
-use Rattle.doc_tree.specs.Number.{IsWhole}
 use Rattle.doc_tree.specs.Tokens.{doc_tokens, docs_tokens, pairs_tokens}
 use Rattle.doc_tree.specs.Valid.{IsDoc, AreDocs}
-use Rattle.compact_json.specs.Spelled.{first_doc}
+use Rattle.compact_json.specs.Compact.{first_doc}
 
 -- a document that a tree can be is next
 abbrev pub AtDoc : List Token → Type 0
@@ -27,10 +25,6 @@ AtPairs ts = (ps : Pairs) × PairsAt ps ts
 -- the pairs of a dict that a tree can be are next
 abbrev pub AtDict : List Token → Type 0
 AtDict ts = (ps : Pairs) × IsDoc (dict ps) × PairsAt ps ts
-
--- the text of a whole number
-abbrev pub IsWholeText : List ℕ → Type 0
-IsWholeText digits = (z : ℤ) × IsWhole z × (digits ≡ signed_decimal z)
 
 -- a value may begin with the token
 abbrev pub begins_value : Token → Bool
@@ -57,8 +51,3 @@ begins_object (number s) = false
 begins_object (boolean b) = false
 begins_object null = false
 begins_object bad = false
-
--- the reader stands before the part that there is, or says that there is none
-abbrev pub FindsPart : Bool → Option Doc → List Token → Type 0
-FindsPart true part ts = AtDoc ts × (part ≡ Some (first_doc ts))
-FindsPart false part ts = part ≡ None

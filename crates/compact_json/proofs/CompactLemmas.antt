@@ -20,9 +20,9 @@ use Rattle.doc_tree.specs.Valid.{IsDoc, AreDocs, ArePairs, InOrder}
 use Rattle.doc_tree.specs.Written.{text}
 use Rattle.doc_tree.proofs.Docs.{docs_of-docs_list, pairs_of-pairs_list}
 use Rattle.doc_tree.proofs.RoundTrip.{print-doc_tokens}
-use Rattle.compact_json.specs.Spelled.{first_doc, spelled, IsCompact}
-use Rattle.compact_json.proofs.Members.{put_last}
-use Rattle.compact_json.proofs.Numbers.{IsNumber-whole, number_of-whole}
+use Rattle.compact_json.specs.Compact.{first_doc, spelled, IsCompact}
+use Rattle.compact_json.proofs.MemberLemmas.{put_last}
+use Rattle.compact_json.proofs.WholeLemmas.{IsNumber-whole, number_of-whole}
 
 -- ---- the text's tokens are those of the document
 

@@ -12,7 +12,7 @@ use Rattle.serde_json.specs.Read.{number_of}
 use Rattle.serde_json.specs.Written.{number_text}
 use Rattle.serde_json.proofs.Numbers.{number_of-decimal, number_of-negative}
 use Rattle.doc_tree.specs.Number.{IsWhole}
-use Rattle.compact_json.specs.Standing.{IsWholeText}
+use Rattle.compact_json.specs.Whole.{IsWholeText}
 
 pub below_top : (n : ℕ) → IsWhole (pos n) → n < 2 ^ 64
 below_top n w = omega (arith, ints, w.1)

@@ -1,4 +1,4 @@
--- The document that a JSON text spells (RFC 8259), however deep it nests.
+-- The compact texts of documents, and the document that each spells (RFC 8259), however deep it nests.
 use Rattle.std.specs.Prelude.{◌≡◌, ℕ, List, length, unwrap_or, option_and_then, option_map}
 use Rattle.json.specs.Json.{value}
 use Rattle.json.specs.Lex.{tokens}
@@ -14,11 +14,11 @@ use Rattle.doc_tree.specs.Written.{text}
 abbrev pub first_doc : List Token → Doc
 first_doc ts = unwrap_or (option_and_then doc_in (option_and_then of_json (option_map (λ p. p.0) (value (length ts) ts)))) null
 
--- the document that bytes spell, and `null` where they spell none
+-- the document that bytes begin with, which is all that a compact text spells
 abbrev pub spelled : List ℕ → Doc
 spelled bytes = first_doc (tokens bytes)
 
--- these bytes are the compact text of the document that they spell
+-- these bytes are the compact text of a document that a tree can be
 pub record IsCompact (bytes : List ℕ) : Type 0 where
   pub doc : IsDoc (spelled bytes)
   pub is : text (spelled bytes) ≡ bytes
