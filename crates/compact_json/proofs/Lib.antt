@@ -1,3 +1,5 @@
-pub mod Numbers
-pub mod Members
-pub mod Spelling
+pub mod WholeLemmas
+pub mod MemberLemmas
+pub mod CompactLemmas
+pub mod NextLemmas
+pub mod ReadLemmas

@@ -1,1 +1,4 @@
-pub mod Spelled
+pub mod Compact
+pub mod Next
+pub mod Whole
+pub mod Find

@@ -5,7 +5,10 @@ ghost use Rattle.doc_tree.specs.Valid.{IsDoc};
 ghost use Rattle.doc_tree.specs.Written.{text};
 ghost use Rattle.std.specs.Prelude.{◌≡◌, IfOk, option_map};
 
+use crate::find::goes_to;
+use crate::read::read_doc;
 use doc_tree::{Bytes, NoMemory, Text, Tree, json_text};
+use json::{Reader, Scratch};
 use std::alloc::Global;
 use std::marker::Model;
 
@@ -18,7 +21,7 @@ pub struct CompactJson {
 impl Model for CompactJson {
     ghost use Rattle.doc_tree.specs.Doc.{Doc};
     ghost use Rattle.doc_tree.specs.DocCode.{doc_code};
-    ghost use Rattle.compact_json.specs.Spelled.{spelled, IsCompact};
+    ghost use Rattle.compact_json.specs.Compact.{spelled, IsCompact};
 
     ghost Value = { Doc };
 
@@ -72,26 +75,27 @@ impl CompactJson {
         let _written = self.written.as_str();
     }
 
-    /// The tree of the document.
+    /// The tree of the document. Beside it this takes room as long as the text, while it reads.
     pub fn tree(&self, alloc: Global) -> Result<Tree, NoMemory>
         ensures { IfOk result (λ tree. doc_of tree ≡ self.now) }
     {
-        let whole = self.bytes(alloc)?;
-        drop(whole);
-        Err(NoMemory)
+        let mut scratch = Scratch::new(alloc);
+        let mut reader = Reader::new(self.written.as_str(), &mut scratch)?;
+        read_doc(alloc, &mut reader)
     }
 
     /// The tree of the part at a path of keys, or `None` exactly where there is none. The empty path is the whole
-    /// document. The rest of the document is passed over, without memory.
+    /// document. Of the rest no tree is made: it is passed over as text. Beside the tree this takes room as long as the
+    /// text, while it reads.
     pub fn part(&self, alloc: Global, path: &[Text]) -> Result<Option<Tree>, NoMemory>
         ensures { IfOk result (λ part. option_map doc_of part ≡ at path.now self.now) }
     {
-        let whole = self.bytes(alloc)?;
-        drop(whole);
-        if path.is_empty() {
-            return Err(NoMemory);
+        let mut scratch = Scratch::new(alloc);
+        let mut reader = Reader::new(self.written.as_str(), &mut scratch)?;
+        if !goes_to(&mut reader, path, self.written.len()) {
+            return Ok(None);
         }
-        Err(NoMemory)
+        Ok(Some(read_doc(alloc, &mut reader)?))
     }
 }
 
@@ -102,7 +106,6 @@ fn written(alloc: Global, tree: &Tree) -> Result<Text, NoMemory>
     let bytes = json_text(alloc, tree)?;
     match str::from_utf8(bytes.as_slice()) {
         Ok(written) => Text::from_str(alloc, written),
-        // Not reached: the text of a tree is UTF-8.
-        Err(_) => Err(NoMemory),
+        Err(_) => unreachable!(),
     }
 }

@@ -2,5 +2,9 @@
 #![tactic(auto)]
 
 mod compact;
+mod find;
+mod next;
+mod read;
+mod whole;
 
 pub use compact::CompactJson;

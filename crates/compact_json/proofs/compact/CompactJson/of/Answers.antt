@@ -1,8 +1,8 @@
 -- The text of a tree spells the document that the tree is.
-use Rattle.std.proofs.Common.{◌≡◌, ap, ◌∙◌}
+use Rattle.std.proofs.Common.{ap, ◌∙◌}
 use Rattle.doc_tree.specs.Tree.{doc_of}
-use Rattle.compact_json.specs.Spelled.{spelled}
-use Rattle.compact_json.proofs.Spelling.{spelled-text, IsCompact-text}
+use Rattle.compact_json.specs.Compact.{spelled}
+use Rattle.compact_json.proofs.CompactLemmas.{spelled-text, IsCompact-text}
 use Rattle.compact_json.proofs.compact.CompactJson.of.Goals as goal
 
 pub invariant_of-result : goal.invariant_of-result

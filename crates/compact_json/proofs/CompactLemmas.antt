@@ -1,10 +1,11 @@
 -- The compact text of a document spells that document, however deep it nests.
-use Rattle.std.proofs.Common.{◌≡◌, ℕ, suc, ◌≤◌, List, [], ◌∷◌, ◌++◌, length, ℤ, pos, negsuc, Option, Some, None, option_map, option_and_then, unwrap_or, refl, sym, ap, ◌∙◌, subst, arith, append_assoc, append-nil, length-append}
+use Rattle.std.proofs.Common.{◌≡◌, ℕ, ◌≤◌, List, [], ◌∷◌, ◌++◌, length, ℤ, pos, negsuc, Some, option_map, option_and_then, unwrap_or, refl, sym, ap, ◌∙◌, subst, arith, append_assoc, append-nil, length-append}
 use Rattle.std.specs.Map.{keys_of}
-use Rattle.json.specs.Json.{Json, Items, Members, if_last, value}
+use Rattle.json.specs.Json.{Json, Items, Members, value}
 use Rattle.json.specs.Json as parsed
 use Rattle.json.specs.Lex.{tokens}
-use Rattle.json.specs.Print.{print}
+use Rattle.json.specs.Print.{print, ArePrintable}
+use Rattle.json.specs.Token.{Token}
 use Rattle.json.specs.Tree.{HasNumbers, ItemsHaveNumbers, MembersHaveNumbers, depth, items_depth, members_depth, json_tokens, items_tokens, members_tokens}
 use Rattle.json.proofs.Printed.Tokens.{tokens-print}
 use Rattle.json.proofs.Printed.Trees.{value-json_tokens, ArePrintable-json_tokens}
@@ -19,9 +20,9 @@ use Rattle.doc_tree.specs.Valid.{IsDoc, AreDocs, ArePairs, InOrder}
 use Rattle.doc_tree.specs.Written.{text}
 use Rattle.doc_tree.proofs.Docs.{docs_of-docs_list, pairs_of-pairs_list}
 use Rattle.doc_tree.proofs.RoundTrip.{print-doc_tokens}
-use Rattle.compact_json.specs.Spelled.{spelled_by, spelled, IsCompact}
-use Rattle.compact_json.proofs.Members.{put_last}
-use Rattle.compact_json.proofs.Numbers.{IsNumber-whole, number_of-whole}
+use Rattle.compact_json.specs.Compact.{first_doc, spelled, IsCompact}
+use Rattle.compact_json.proofs.MemberLemmas.{put_last}
+use Rattle.compact_json.proofs.WholeLemmas.{IsNumber-whole, number_of-whole}
 
 -- ---- the text's tokens are those of the document
 
@@ -46,13 +47,16 @@ mutual
 pub print-tokens : (d : Doc) → print (doc_tokens d) ≡ text d
 print-tokens d = print-doc_tokens (print (doc_tokens d)) [] (doc_tokens d) d refl refl refl
 
+pub ArePrintable-doc : (d : Doc) → IsDoc d → ArePrintable (doc_tokens d)
+ArePrintable-doc d v = ArePrintable-json_tokens (outline (data_of d)) (HasNumbers-doc d v)
+
 pub text-tokens : (d : Doc) → IsDoc d → tokens (text d) ≡ doc_tokens d
-text-tokens d v = ap tokens (sym (print-tokens d)) ∙ tokens-print (doc_tokens d) (ArePrintable-json_tokens (outline (data_of d)) (HasNumbers-doc d v))
+text-tokens d v = ap tokens (sym (print-tokens d)) ∙ tokens-print (doc_tokens d) (ArePrintable-doc d v)
 
 -- ---- a value nests at most as deep as it has tokens
 
 mutual
-  depth-json : (j : Json) → depth j ≤ length (json_tokens j)
+  pub depth-json : (j : Json) → depth j ≤ length (json_tokens j)
   depth-json parsed.null = omega arith
   depth-json (parsed.boolean b) = omega arith
   depth-json (parsed.number s) = omega arith
@@ -115,19 +119,18 @@ mutual
 
 -- ---- the whole
 
-parsed_whole : (d : Doc) (limit : ℕ) → depth (outline (data_of d)) ≤ limit → value limit (doc_tokens d) ≡ Some (outline (data_of d), [])
-parsed_whole d limit shallow = ap (value limit) (sym (append-nil (doc_tokens d))) ∙ value-json_tokens (outline (data_of d)) limit [] shallow
-
-spelled_by-tokens : (d : Doc) → IsDoc d → spelled_by (doc_tokens d) ≡ d
-spelled_by-tokens d v =
+-- the tokens of a document begin with it, whatever follows
+pub first_doc-doc_tokens : (d : Doc) (rest : List Token) → IsDoc d → first_doc (doc_tokens d ++ rest) ≡ d
+first_doc-doc_tokens d rest v =
     let j = outline (data_of d) in
-    ap (λ o. unwrap_or (option_and_then doc_in (option_and_then of_json (option_and_then (λ p. if_last p.0 p.1) o))) null) (parsed_whole d (length (doc_tokens d)) (depth-json j))
+    let shallow : depth j ≤ length (doc_tokens d ++ rest) = omega (arith, depth-json j, length-append (doc_tokens d) rest) in
+    ap (λ o. unwrap_or (option_and_then doc_in (option_and_then of_json (option_map (λ p. p.0) o))) null) (value-json_tokens j (length (doc_tokens d ++ rest)) rest shallow)
     ∙ ap (λ o. unwrap_or (option_and_then doc_in o) null) (of_json-outline d v)
     ∙ ap (λ o. unwrap_or o null) (doc_in-data_of d)
 
 -- the text of a document spells it
 pub spelled-text : (d : Doc) → IsDoc d → spelled (text d) ≡ d
-spelled-text d v = ap spelled_by (text-tokens d v) ∙ spelled_by-tokens d v
+spelled-text d v = ap first_doc (text-tokens d v ∙ sym (append-nil (doc_tokens d))) ∙ first_doc-doc_tokens d [] v
 
 -- the text of a document is compact
 pub IsCompact-text : (d : Doc) (bytes : List ℕ) → IsDoc d → bytes ≡ text d → IsCompact bytes
