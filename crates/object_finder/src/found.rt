@@ -77,12 +77,7 @@ fn is_found<L: Ledger>(
 }
 
 // The object's tree is read from its text, and goes before its pairs are compared.
-fn finds(
-    alloc: Global,
-    kind: Kind,
-    query: &Query,
-    object: &CompactJson,
-) -> Result<bool, NoMemory>
+fn finds(alloc: Global, kind: Kind, query: &Query, object: &CompactJson) -> Result<bool, NoMemory>
     ensures { IfOk result (λ found. found ≡ meets query.now (pairs_of kind object.now)) }
 {
     let pairs = pairs_in(alloc, kind, object)?;

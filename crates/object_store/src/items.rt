@@ -17,7 +17,11 @@ use std::alloc::Global;
 use std::collections::BTreeSet;
 
 /// The object of this kind and name on its shelf.
-pub(crate) fn find_settled<'a>(shelves: &'a Shelves, kind: Kind, name: &str) -> Option<&'a CompactJson>
+pub(crate) fn find_settled<'a>(
+    shelves: &'a Shelves,
+    kind: Kind,
+    name: &str,
+) -> Option<&'a CompactJson>
     ensures { option_copied result ≡ settled shelves.now (key kind name.now) }
 {
     let (word, name) = shelved(kind, name);

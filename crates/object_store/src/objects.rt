@@ -170,7 +170,12 @@ impl Objects {
     }
 
     /// The object of this kind and name, which is not copied. It counts one step.
-    pub fn look_up<L: Ledger>(&self, kind: Kind, name: &str, steps: &mut Steps<L>) -> Option<&CompactJson>
+    pub fn look_up<L: Ledger>(
+        &self,
+        kind: Kind,
+        name: &str,
+        steps: &mut Steps<L>,
+    ) -> Option<&CompactJson>
         ensures object { option_copied result ≡ finite.get self.now.objects (key kind name.now) }
         ensures ticks { steps.new ≡ steps.old + 1 }
     {
@@ -251,7 +256,12 @@ fn look<'a>(late: &'a Late, shelves: &'a Shelves, kind: Kind, name: &str) -> Opt
     }
 }
 
-fn look_item<'a>(late: &'a Late, shelves: &'a Shelves, bag: &str, id: &str) -> Option<&'a CompactJson>
+fn look_item<'a>(
+    late: &'a Late,
+    shelves: &'a Shelves,
+    bag: &str,
+    id: &str,
+) -> Option<&'a CompactJson>
     ensures { option_copied result ≡ found late.now shelves.now (key Kind.Item (item_name bag.now id.now)) }
 {
     match seek_item(late, bag, id) {

@@ -27,8 +27,6 @@ pub use manifests::{bad_manifest, missing_sums, missing_told, shown_edition, sho
 pub use moves::{Move, Moves, one_move};
 pub use needs::{Need, Needs, first_lacking, is_known, key_of, listed_need};
 pub use org_state::OrgState;
-pub use prepared::{
-    or_stop, prepared_showing, reply_copying, reply_showing, unmoved, with_moves,
-};
+pub use prepared::{or_stop, prepared_showing, reply_copying, reply_showing, unmoved, with_moves};
 pub use rules::{Group, Prepared};
 pub use stored::{Stored, named_by};

@@ -169,7 +169,12 @@ impl OrgState {
     }
 
     /// The object of this kind and name. It is looked at in one step.
-    pub fn look_up<L: Ledger>(&self, kind: Kind, name: &str, steps: &mut Steps<L>) -> Option<&CompactJson>
+    pub fn look_up<L: Ledger>(
+        &self,
+        kind: Kind,
+        name: &str,
+        steps: &mut Steps<L>,
+    ) -> Option<&CompactJson>
         ensures object { option_copied result ≡ object_in (state_in self.now) kind name.now }
         ensures looked { steps.new ≡ steps.old + 1 }
     {

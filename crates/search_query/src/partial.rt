@@ -85,12 +85,7 @@ impl Partial {
         Ok(Tree::Dict(fields))
     }
 
-    fn values(
-        &self,
-        alloc: Global,
-        kind: Kind,
-        object: &CompactJson,
-    ) -> Result<Fields, NoMemory>
+    fn values(&self, alloc: Global, kind: Kind, object: &CompactJson) -> Result<Fields, NoMemory>
         ensures { IfOk result (λ values. values ≡ spec.data_of kind self.now object.now) }
     {
         let mut values = Fields::with_capacity(alloc, self.wanted.len())?;

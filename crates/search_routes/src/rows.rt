@@ -124,7 +124,12 @@ fn part(
     let path = path_of(alloc, org, index, name)?;
     match object {
         Some(object) => partial.row(alloc, index.kind(), object, path),
-        None => partial.row(alloc, index.kind(), &CompactJson::of(alloc, &Tree::Null)?, path),
+        None => partial.row(
+            alloc,
+            index.kind(),
+            &CompactJson::of(alloc, &Tree::Null)?,
+            path,
+        ),
     }
 }
 
