@@ -4,6 +4,8 @@
 #[cfg(test)]
 mod command_words_tests;
 #[cfg(test)]
+mod compact_json_tests;
+#[cfg(test)]
 mod disk_tests;
 #[cfg(test)]
 mod doc_tree_tests;
