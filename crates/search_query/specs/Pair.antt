@@ -1,5 +1,5 @@
 -- Pairs of a field and a value, and lists of them in order.
-use Rattle.std.specs.Prelude.{ℕ, Bool, List, refl, take, drop}
+use Rattle.std.specs.Prelude.{ℕ, Bool, List, refl}
 use Rattle.std.specs.Coded.{Coded, code_by, coded×, coded_list, coded_ℕ}
 use Rattle.std.specs.List.{list_any}
 use Rattle.std.specs.List.Sorted.{IsStrictlySortedBy}
@@ -16,10 +16,6 @@ pub record Pair : Type 0 where
 -- this field with this value
 abbrev pub pair : List ℕ → List ℕ → Pair
 pair field value = record { field = field; value = value }
-
--- the field is the first so many bytes of a text, and the value the rest
-abbrev pub cut_at : ℕ → List ℕ → Pair
-cut_at n text = pair (take n text) (drop n text)
 
 -- how the logic stores a pair: as the field and the value
 abbrev pub pair_code : Coded Pair

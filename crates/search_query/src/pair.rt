@@ -9,41 +9,32 @@ use std::alloc::Global;
 use std::cmp::Ordering;
 use std::marker::Model;
 
-/// A field and a value, by which an object is found: both in one text, so that a pair takes one piece of memory.
-/// Contracts see the field and the value. Pairs are in the order of the bytes of their fields, and then of their values.
+/// A field and a value, by which an object is found: each a text of its own, so that an index that has the field or the
+/// value already can share it. Pairs are in the order of the bytes of their fields, and then of their values.
 #[derive(Drop)]
 pub struct Pair {
-    // The field and then the value.
-    text: Text,
-    // How many bytes the field has.
-    cut: usize,
+    field: Text,
+    value: Text,
 }
 
 impl Model for Pair {
-    ghost use Rattle.std.specs.Prelude.{◌≤◌, length};
     ghost use Rattle.search_query.specs.Pair as specs;
 
     ghost Value = { specs.Pair };
 
     ghost coded = { specs.pair_code };
 
-    ghost view = { λ p. specs.cut_at p.cut p.text };
-
-    ghost invariant = { λ p. p.cut ≤ length p.text };
+    ghost view = { λ p. specs.pair p.field p.value };
 }
 
 impl Pair {
-    /// This field with this value, copied into one text.
+    /// This field with this value, copied.
     pub fn of(alloc: Global, field: &str, value: &str) -> Result<Pair, NoMemory>
         ensures { IfOk result (λ p. p ≡ pair field.now value.now) }
     {
-        let room = field.len().saturating_add(value.len());
-        let mut text = String::with_capacity(alloc, room)?;
-        text.push_str(field)?;
-        text.push_str(value)?;
         Ok(Pair {
-            text: Text::of(text),
-            cut: field.len(),
+            field: Text::from_str(alloc, field)?,
+            value: Text::from_str(alloc, value)?,
         })
     }
 
@@ -51,14 +42,23 @@ impl Pair {
     pub fn field(&self) -> &[u8]
         ensures { result.now ≡ self.now.field }
     {
-        &self.text.as_bytes()[..self.cut]
+        self.field.as_bytes()
     }
 
     /// The bytes of the value, which are UTF-8.
     pub fn value(&self) -> &[u8]
         ensures { result.now ≡ self.now.value }
     {
-        &self.text.as_bytes()[self.cut..]
+        self.value.as_bytes()
+    }
+
+    /// The field and the value, which are moved out.
+    pub fn into_parts(self) -> (Text, Text)
+        ensures field { result.0 ≡ self.field }
+        ensures value { result.1 ≡ self.value }
+    {
+        let Pair { field, value } = self;
+        (field, value)
     }
 }
 
