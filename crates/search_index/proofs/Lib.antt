@@ -2,6 +2,7 @@ pub mod ChainLemmas
 pub mod NetLemmas
 pub mod WalkLemmas
 pub mod EqualKeys
+pub mod WordLemmas
 pub mod GivenLemmas
 pub mod GoneLemmas
 pub mod PlaceLemmas

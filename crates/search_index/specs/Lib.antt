@@ -3,6 +3,7 @@ pub mod Chains
 pub mod Net
 pub mod Scope
 pub mod KeyOrder
+pub mod Words
 pub mod Arena
 pub mod Found
 pub mod Names

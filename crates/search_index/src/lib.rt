@@ -12,6 +12,7 @@ mod posting;
 mod postings;
 mod scope;
 mod seek;
+mod words;
 
 pub use index::Index;
 pub use scope::{Scope, ScopeAt};
