@@ -12,6 +12,7 @@ mod posting;
 mod postings;
 mod scope;
 mod seek;
+mod terms;
 mod words;
 
 pub use index::Index;

@@ -1,7 +1,7 @@
 -- The keys and the postings are as they were.
 use Rattle.std.proofs.Common.{length, refl, ap, subst, arith}
 use Rattle.search_index.specs.declared.key.ObjectKey.{ObjectKey}
-use Rattle.search_index.specs.declared.key.TermKey.{TermKey}
+use Rattle.search_index.specs.KeyOrder.{TermKey}
 use Rattle.ordered_keys.specs.Keys.{Keys}
 use Rattle.search_index.specs.Arena.{Contents, SameObjects}
 use Rattle.search_index.proofs.GoneLemmas.{IsReserved, kept_keys, reserved}
