@@ -1,4 +1,5 @@
 pub mod Numbers
 pub mod Keys
+pub mod Arranged
 pub mod Order
 pub mod Tree
