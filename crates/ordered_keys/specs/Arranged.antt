@@ -1,5 +1,5 @@
 -- Items under numbers that stay, in an order that is told from outside.
-use Rattle.std.specs.Prelude.{◌≡◌, ◌≢◌, ◌⊎◌, ◌↔◌, ℕ, List, [], ◌∷◌, ◌++◌, Option, Some, None, IsSome, refl}
+use Rattle.std.specs.Prelude.{◌≡◌, ◌≢◌, ◌↔◌, ℕ, List, ◌∷◌, ◌++◌, Option, Some, IsSome, refl}
 use Rattle.std.specs.Coded.{Coded, code_by, coded×, coded_ℕ, coded_list, coded_option}
 use Rattle.std.specs.declared.cmp.Ordering.{Ordering}
 use Rattle.std.specs.declared.cmp.Ordering.TheVariants.{Less, Equal, Greater}
@@ -14,7 +14,7 @@ pub record Arrangement (T : Type 0) : Type 0 where
 
 -- how the logic stores them
 abbrev pub arrangement_code : {T : Type 0} → Coded T → Coded (Arrangement T)
-arrangement_code {T} code = code_by (List (Option T) × (List ℕ × ℕ)) (coded× (coded_list (coded_option code)) (coded× (coded_list coded_ℕ) coded_ℕ)) (λ a. (a.slots, a.order, a.room)) (λ p. record { slots = p.0; order = p.1; room = p.2 }) (λ _. refl)
+arrangement_code {T} code = code_by (List (Option T) × (List ℕ × ℕ)) (coded× (coded_list (coded_option code)) (coded× (coded_list coded_ℕ) coded_ℕ)) (λ a. (a.slots, (a.order, a.room))) (λ p. record { slots = p.0; order = p.1.0; room = p.1.1 }) (λ _. refl)
 
 module _ {T : Type 0} where
   -- the item under a number
@@ -25,10 +25,14 @@ module _ {T : Type 0} where
   abbrev pub keys_of : Arrangement T → Keys T
   keys_of a = record { slots = a.slots; room = a.room }
 
-  -- the numbers of the order are those of the items, each once
-  pub record IsListed (a : Arrangement T) : Type 0 where
-    pub live : (i : ℕ) → Among a.order i ↔ IsSome (item_of a i)
-    pub apart : AreApart a.order
+  -- these are the numbers of all items, each once
+  pub record IsListing (item : ℕ → Option T) (order : List ℕ) : Type 0 where
+    pub live : (i : ℕ) → Among order i ↔ IsSome (item i)
+    pub apart : AreApart order
+
+  -- the order has the numbers of all items, each once
+  abbrev pub IsListed : Arrangement T → Type 0
+  IsListed a = IsListing (item_of a) a.order
 
   -- the item under each of these numbers stands so
   abbrev pub AllAre : (T → Ordering) → (ℕ → Option T) → Ordering → List ℕ → Type 0

@@ -2,4 +2,5 @@ pub mod Numbers
 pub mod Keys
 pub mod Arranged
 pub mod Order
+pub mod Stored
 pub mod Tree

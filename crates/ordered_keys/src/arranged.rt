@@ -3,7 +3,7 @@ ghost use Rattle.std.specs.Prelude.{◌≡◌, ◌+◌, ◌≤◌, MatchOption, 
 ghost use Rattle.ordered_keys.specs.Keys.{Grows, Inserts, Removes, key_in};
 ghost use Rattle.ordered_keys.specs.Numbers.{Loses};
 ghost use Rattle.ordered_keys.specs.Arranged.{AreWithin, CanLeave, HasWithin, IsCut, IsListed, NoneStands, Places, StandsAt, item_of, keys_of};
-ghost use Rattle.ordered_keys.specs.Order.{IsStocked};
+ghost use Rattle.ordered_keys.specs.Stored.{IsStocked};
 
 use crate::sought::{Ranked, Ranking, Sought};
 use crate::tree::{Link, Node, gather, placed, standing_at, without};
@@ -33,7 +33,7 @@ impl<T> Model for Arranged<T> {
 
     ghost coded = { arrangement_code T.code };
 
-    ghost use Rattle.ordered_keys.specs.Order.{IsStored};
+    ghost use Rattle.ordered_keys.specs.Stored.{IsStored};
     ghost use Rattle.ordered_keys.specs.Tree.{numbers};
 
     ghost view = { λ a. record { slots = a.items.items; order = numbers a.order; room = length a.free.items } };
