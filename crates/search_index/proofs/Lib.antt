@@ -3,6 +3,8 @@ pub mod NetLemmas
 pub mod WalkLemmas
 pub mod EqualKeys
 pub mod WordLemmas
+pub mod UseLemmas
+pub mod TermLemmas
 pub mod GivenLemmas
 pub mod GoneLemmas
 pub mod PlaceLemmas

@@ -1,9 +1,9 @@
 -- Terms by the numbers of their words, for the private clauses.
 use Rattle.std.specs.Prelude.{◌≡◌, ◌≢◌, ◌+◌, ◌/◌, ◌≤◌, ℕ, Bool, cond, eqb, List, length, map, min, Option, Some, None, option_map}
 use Rattle.std.specs.List.{sum_by}
-use Rattle.ordered_keys.specs.Arranged.{Arrangement, item_of}
+use Rattle.ordered_keys.specs.Arranged.{Arrangement}
 use Rattle.ordered_keys.specs.Keys.{Keys, key_of}
-use Rattle.ordered_keys.specs.Order.{IsRising}
+use Rattle.ordered_keys.specs.Order.{IsInOrder}
 use Rattle.search_index.specs.KeyOrder.{TermKey, term_cmp, term_key}
 use Rattle.search_index.specs.Words.{Vocabulary, uses_at, word_at}
 use Rattle.search_index.specs.declared.key.TermAt.{TermAt}
@@ -17,9 +17,13 @@ term_at t = term_key t.scope t.field.now t.value.now
 abbrev pub term_in : Vocabulary → TermNumbers → TermKey
 term_in v t = term_key t.scope (word_at v t.field) (word_at v t.value)
 
+-- the terms of these numbers, in their order
+abbrev pub spelled : Vocabulary → Arrangement TermNumbers → Arrangement TermKey
+spelled v a = record { slots = map (option_map (term_in v)) a.slots; order = a.order; room = a.room }
+
 -- the term under each number, and how many more surely fit: each may take two words more
 abbrev pub terms_in : Arrangement TermNumbers → Vocabulary → Keys TermKey
-terms_in a v = record { slots = map (option_map (term_in v)) a.slots; room = min a.room (v.texts.room / 2) }
+terms_in a v = record { slots = (spelled v a).slots; room = min a.room (v.texts.room / 2) }
 
 -- one, where it is so
 abbrev pub one_if : Bool → ℕ
@@ -37,7 +41,7 @@ all_uses slots i = sum_by (uses_of i) slots
 -- each word is used as often as the terms use it, the terms rise by their words, and each number fits into 32 bits
 pub record AreTerms (a : Arrangement TermNumbers) (v : Vocabulary) : Type 0 where
   pub counted : (i : ℕ) → uses_at v i ≡ all_uses a.slots i
-  pub rising : IsRising term_cmp (λ i. option_map (term_in v) (item_of a i)) a.order
+  pub in_order : IsInOrder term_cmp (spelled v a)
   pub few : length a.slots ≤ 4294967295
 
 -- the terms are as they were, in no more than so many further numbers

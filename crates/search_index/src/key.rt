@@ -9,6 +9,9 @@ use doc_tree::Text;
 use ordered_keys::Probe;
 use std::cmp::Ordering;
 
+/// Scopes, terms and words have no more numbers than this, so that each fits into 32 bits.
+pub(crate) const MOST_NUMBERS: usize = 0xFFFF_FFFF;
+
 /// An object, by the number of its scope and its name.
 #[derive(Drop)]
 pub(crate) struct ObjectKey {

@@ -4,16 +4,13 @@ ghost use Rattle.ordered_keys.specs.Keys.{AreBetween, IsAbsent, IsOnce, Numbers,
 ghost use Rattle.search_index.specs.KeyOrder.{term_cmp, term_key};
 ghost use Rattle.search_index.specs.Terms.{MakesRoom, TakesOut, term_at, term_in};
 
-use crate::key::{TermAt, TermNumbers};
+use crate::key::{MOST_NUMBERS, TermAt, TermNumbers};
 use crate::words::Words;
 use doc_tree::{NoMemory, Text};
 use ordered_keys::{Arranged, Ranking, Sought};
 use std::alloc::Global;
 use std::cmp::Ordering;
 use std::marker::Model;
-
-// There are no more numbers than this, so that each fits into 32 bits.
-const MOST: usize = 0xFFFF_FFFF;
 
 /// Terms, no two of them equal, each under a number that it keeps, in the order of their scopes, then of the bytes of
 /// their fields and then of their values. Contracts see the term under each number, and how many more surely fit without
@@ -63,15 +60,18 @@ impl Terms {
         ensures same { MakesRoom self.old self.new terms }
         ensures ok { OnOk result (terms ≤ self.new.room) }
     {
+        // The field and the value of each term may be new.
+        let Some(words) = terms.checked_mul(2) else {
+            return Err(NoMemory);
+        };
         let more = terms.saturating_sub(self.numbers.room());
         let Some(size) = self.numbers.size().checked_add(more) else {
             return Err(NoMemory);
         };
-        if size > MOST {
+        if size > MOST_NUMBERS {
             return Err(NoMemory);
         }
-        // Each term is of two words, which may both be new. No more than MOST are asked for, so this can't run over.
-        self.words.reserve(terms.saturating_mul(2))?;
+        self.words.reserve(words)?;
         self.numbers.grow(more)
     }
 
@@ -101,7 +101,6 @@ impl Terms {
         ensures { Numbers self.old self.new (term_key scope field value) result }
     {
         self.words.known();
-        self.numbers.known();
         let term = TermNumbers {
             scope,
             field: self.words.take_in(field),
@@ -116,7 +115,6 @@ impl Terms {
         ensures { TakesOut self.old self.new number }
     {
         self.words.known();
-        self.numbers.known();
         let term = *self.numbers.item(number);
         self.numbers.remove(&ByWords { words: &self.words }, number);
         self.words.release(term.field);
@@ -127,7 +125,7 @@ impl Terms {
     pub(crate) fn known(&self)
         ensures { IsOnce self.now }
     {
-        self.numbers.known();
+        let _ = &self.words;
     }
 
     /// The parts of the term under a number, if there is one.
@@ -144,7 +142,6 @@ impl Terms {
     pub(crate) fn find(&self, term: &TermAt) -> Option<usize>
         ensures { MatchOption result (IsAbsent term_cmp self.now (term_at term.now)) (λ number. key_of self.now number ≡ Some (term_at term.now)) }
     {
-        self.numbers.known();
         let words = &self.words;
         self.numbers.find(&SoughtTerm { words, term })
     }
@@ -159,7 +156,6 @@ impl Terms {
     ) -> Result<Vec<usize>, NoMemory>
         ensures { IfOk result (λ numbers. AreBetween term_cmp self.now (term_at low.now) (term_at high.now) numbers.items) }
     {
-        self.numbers.known();
         let words = &self.words;
         let low = SoughtTerm { words, term: low };
         let high = SoughtTerm { words, term: high };

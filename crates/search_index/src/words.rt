@@ -3,13 +3,11 @@ ghost use Rattle.std.specs.Prelude.{◌≡◌, ◌+◌, ◌<◌, ◌≤◌, ◌^
 ghost use Rattle.ordered_keys.specs.Keys.{key_of};
 ghost use Rattle.search_index.specs.Words.{IsCounted, PadsUses, Releases, SameWords, TakesIn, uses_at, word_at};
 
+use crate::key::MOST_NUMBERS;
 use doc_tree::{NoMemory, Text};
 use ordered_keys::Ordered;
 use std::alloc::Global;
 use std::marker::Model;
-
-// There are no more numbers than this, so that each fits into 32 bits.
-const MOST: usize = 0xFFFF_FFFF;
 
 /// Words, each of which is kept once and as long as it is used. Contracts see the word under each number, how often it is
 /// used, and how many more words fit without memory.
@@ -79,7 +77,7 @@ impl Words {
         let Some(size) = self.texts.size().checked_add(more) else {
             return Err(NoMemory);
         };
-        if size > MOST {
+        if size > MOST_NUMBERS {
             return Err(NoMemory);
         }
         pad(&mut self.uses, size)?;

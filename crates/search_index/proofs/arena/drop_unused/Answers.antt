@@ -13,6 +13,6 @@ returns-then-is_unused c =
         | inl e ↦ absurd (let none : key_of c.remove.new.self j ≡ None = ap (key_of c.remove.new.self) e ∙ c.remove.ensures.gone in cc)
         | inr differs ↦ (sym (c.remove.ensures.others j differs) ∙ is, λ e. absurd (differs e))
       ];
-      room = (let more = c.remove.ensures.more in omega arith);
+      room = c.remove.ensures.room;
       size = c.remove.ensures.size;
     }
