@@ -1,5 +1,5 @@
 -- Terms by the numbers of their words: what is seen of them, a term more and a term fewer.
-use Rattle.std.proofs.Common.{◌≡◌, ◌≢◌, ◌↔◌, ℕ, zero, suc, ◌+◌, ◌<◌, ◌≤◌, ◌^◌, inl, inr, List, [], ◌∷◌, length, map, Option, Some, None, is_some, IsSome, option_map, MatchOption, Result, Ok, Err, IfOk, OnErr, OnOk, refl, sym, ap, ap₂, subst, ◌∙◌, arith}
+use Rattle.std.proofs.Common.{◌≡◌, ◌≢◌, ℕ, zero, suc, ◌+◌, ◌<◌, ◌≤◌, ◌^◌, inl, inr, List, [], ◌∷◌, length, map, Option, Some, None, is_some, IsSome, option_map, MatchOption, Result, Ok, Err, IfOk, OnErr, OnOk, refl, sym, ap, ap₂, subst, ◌∙◌, arith}
 use Rattle.std.proofs.lemmas.Bool.{cases_eq}
 use Rattle.std.proofs.lemmas.List.{get_or_past, length-map}
 use Rattle.std.proofs.lemmas.Result.{on_err_weaker}
@@ -7,14 +7,14 @@ use Rattle.std.specs.Global.{Vec}
 use Rattle.std.specs.Cmp.{tied_itself}
 use Rattle.std.specs.declared.cmp.Ordering.{Ordering}
 use Rattle.std.specs.declared.cmp.Ordering.TheVariants.{Less, Equal, Greater}
-use Rattle.ordered_keys.specs.Numbers.{Among, Loses}
-use Rattle.ordered_keys.specs.Keys.{AreBetween, Grows, Inserts, IsAbsent, IsOnce, Keys, Numbers, Removes, key_in, key_of}
+use Rattle.ordered_keys.specs.Numbers.{Loses}
+use Rattle.ordered_keys.specs.Keys.{AreBetween, Grows, Inserts, IsAbsent, IsOnce, Numbers, Removes, key_in, key_of}
 use Rattle.ordered_keys.specs.Arranged.{AllAre, AreWithin, Arrangement, CanLeave, IsCut, IsListing, NoneStands, Places, StandsAt, item_of, keys_of}
 use Rattle.ordered_keys.specs.Order.{IsInOrder, IsRising}
 use Rattle.ordered_keys.proofs.OrderLemmas.{can_leave, cut_by, equal_once, in_order_grown, in_order_in, in_order_out, rising_kept}
 use Rattle.ordered_keys.proofs.ItemLemmas.{listing_kept}
 use Rattle.search_index.specs.KeyOrder.{TermKey, term_cmp, term_cmp_total, term_key}
-use Rattle.search_index.specs.Words.{IsCounted, Releases, SameWords, TakesIn, Vocabulary, uses_at, word_at, word_or_empty}
+use Rattle.search_index.specs.Words.{IsCounted, Releases, SameWords, TakesIn, Vocabulary, uses_at, word_or_empty}
 use Rattle.search_index.specs.Terms.{AreTerms, MakesRoom, TakesOut, all_uses, spelled, term_in, terms_in, uses_of}
 use Rattle.search_index.specs.declared.key.TermNumbers.{TermNumbers}
 use Rattle.search_index.proofs.EqualKeys.{same_terms}

@@ -1,7 +1,7 @@
 -- Scopes, objects and terms under numbers, and the postings between them.
 use Rattle.std.specs.Prelude.{◌≡◌, ◌⊎◌, ◌↔◌, ℕ, ◌+◌, ◌-◌, ◌≤◌, List, [], ◌∷◌, length, min, Some, IsSome, refl}
 use Rattle.std.specs.Coded.{Coded, code_by, coded×, coded_list, coded_ℕ}
-use Rattle.search_query.specs.Pair.{Pair, pair_code}
+use Rattle.search_query.specs.Pair.{Pair}
 use Rattle.search_index.specs.declared.scope.Scope.{Scope}
 use Rattle.search_index.specs.declared.key.ObjectKey.{ObjectKey}
 use Rattle.ordered_keys.specs.Keys.{Keys, IsOnce, Numbers, key_of, keys_code}

@@ -1,5 +1,5 @@
 -- A term without a posting is out.
-use Rattle.std.proofs.Common.{◌≡◌, ◌∙◌, inl, inr, None, sym, ap, arith}
+use Rattle.std.proofs.Common.{◌≡◌, ◌∙◌, inl, inr, None, sym, ap}
 use Rattle.std.proofs.lemmas.Bool.{cases_eq}
 use Rattle.ordered_keys.specs.Keys.{key_of}
 use Rattle.search_index.proofs.arena.drop_unused.Goals as goal

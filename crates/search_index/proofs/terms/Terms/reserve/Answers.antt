@@ -1,5 +1,5 @@
 -- The terms are as they were, in as many numbers as there was memory for.
-use Rattle.std.proofs.Common.{◌≡◌, ◌+◌, length, refl, subst, arith}
+use Rattle.std.proofs.Common.{refl, subst, arith}
 use Rattle.ordered_keys.specs.Keys.{Keys}
 use Rattle.search_index.specs.KeyOrder.{TermKey}
 use Rattle.search_index.specs.Terms.{MakesRoom, terms_in}

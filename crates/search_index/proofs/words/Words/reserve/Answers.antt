@@ -1,5 +1,5 @@
 -- The words are as they were, in as many numbers as there was memory for.
-use Rattle.std.proofs.Common.{◌≡◌, ◌≤◌, ◌+◌, length, arith}
+use Rattle.std.proofs.Common.{arith}
 use Rattle.search_index.specs.Words.{Vocabulary}
 use Rattle.search_index.proofs.WordLemmas.{grows_at_most, reserved}
 use Rattle.search_index.proofs.words.Words.reserve.Goals as goal
