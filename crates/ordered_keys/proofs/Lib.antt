@@ -1,5 +1,7 @@
 pub mod NumberLemmas
-pub mod OrderLemmas
+pub mod RunLemmas
 pub mod TreeLemmas
 pub mod FindLemmas
+pub mod ItemLemmas
+pub mod OrderLemmas
 pub mod KeyLemmas

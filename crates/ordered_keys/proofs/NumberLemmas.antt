@@ -32,3 +32,18 @@ apart_pop [] x h = (tt, λ a. a)
 apart_pop (y ∷ xs) x h =
     let rest = apart_pop xs x h.1 in
     ((λ a. h.0 (Among-left xs (x ∷ []) y a), rest.0), elim [ inl e ↦ h.0 (Among-right xs (x ∷ []) y (inl (sym e))) | inr a ↦ rest.1 a ])
+
+pub apart_insert : (xs ys : List ℕ) (x : ℕ) → AreApart (xs ++ ys) → (Among (xs ++ ys) x → ⊥) → AreApart (xs ++ x ∷ ys)
+apart_insert [] ys x h out = (out, h)
+apart_insert (y ∷ xs) ys x h out = (
+  λ a. elim (Among-split xs (x ∷ ys) y a) [ inl b ↦ h.0 (Among-left xs ys y b) | inr (inl e) ↦ out (inl (sym e)) | inr (inr b) ↦ h.0 (Among-right xs ys y b) ],
+  apart_insert xs ys x h.1 (λ a. out (inr a)),
+)
+
+pub apart_remove : (xs ys : List ℕ) (x : ℕ) → AreApart (xs ++ x ∷ ys) → AreApart (xs ++ ys) × (Among (xs ++ ys) x → ⊥)
+apart_remove [] ys x h = (h.1, h.0)
+apart_remove (y ∷ xs) ys x h =
+    let rest = apart_remove xs ys x h.1 in (
+      (λ a. h.0 (elim (Among-split xs ys y a) [ inl b ↦ Among-left xs (x ∷ ys) y b | inr b ↦ Among-right xs (x ∷ ys) y (inr b) ]), rest.0),
+      elim [ inl e ↦ h.0 (Among-right xs (x ∷ ys) y (inl (sym e))) | inr a ↦ rest.1 a ],
+    )

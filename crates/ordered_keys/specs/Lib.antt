@@ -1,4 +1,6 @@
 pub mod Numbers
 pub mod Keys
+pub mod Arranged
 pub mod Order
+pub mod Stored
 pub mod Tree

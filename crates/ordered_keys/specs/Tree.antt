@@ -1,39 +1,68 @@
 -- What the changes of a tree do to its numbers, for the private clauses.
-use Rattle.std.specs.Prelude.{◌≡◌, ◌↔◌, ℕ, List, [], ◌∷◌, ◌++◌, Option, Some, None, IsSome, Box}
+use Rattle.std.specs.Prelude.{◌≡◌, ◌≢◌, ◌↔◌, ℕ, List, [], ◌∷◌, ◌++◌, Option, Some, None, IsSome, Box}
 use Rattle.std.specs.declared.alloc.Global.{Global}
 use Rattle.std.specs.declared.cmp.Ordering.{Ordering}
-use Rattle.std.specs.declared.cmp.Ordering.TheVariants.{Equal}
-use Rattle.ordered_keys.specs.Numbers.{Among}
-use Rattle.ordered_keys.specs.Keys.{IsBetween}
-use Rattle.ordered_keys.specs.Order.{IsBelow, IsFrom, IsRun, order_to}
+use Rattle.std.specs.declared.cmp.Ordering.TheVariants.{Less, Equal, Greater}
+use Rattle.ordered_keys.specs.Numbers.{Among, Loses}
+use Rattle.ordered_keys.specs.Arranged.{AllAre, IsWithin}
 
 -- the numbers of a tree, in order
 abbrev pub numbers : Option (Box (List ℕ) Global) → List ℕ
 numbers None = []
 numbers (Some node) = node.value
 
-module _ {K : Type 0} (cmp : K → K → Ordering) (key : ℕ → Option K) where
-  -- the numbers are cut in two: the keys of the first part are below this, and those of the second are not
-  pub record IsParted (k : K) (all front back : List ℕ) : Type 0 where
-    pub whole : all ≡ front ++ back
-    pub below : IsRun cmp key all → (i : ℕ) → Among front i → IsBelow cmp key k i
-    pub rest : IsRun cmp key all → (i : ℕ) → Among back i → IsFrom cmp key k i
+module _ {T : Type 0} (standing : T → Ordering) where
+  -- how what is under a number stands to what is sought; where there is nothing, as below it
+  abbrev pub stand : Option T → Ordering
+  stand (Some x) = standing x
+  stand None = Less
 
-  -- one number more, behind those whose keys are below this
-  pub record IsPlaced (k : K) (all : List ℕ) (id : ℕ) (now : List ℕ) : Type 0 where
-    pub front : List ℕ
-    pub back : List ℕ
-    pub parted : IsParted k all front back
-    pub placed : now ≡ front ++ id ∷ back
+  module _ (item : ℕ → Option T) where
+    -- the item under the number is below what is sought
+    abbrev pub IsBelow : ℕ → Type 0
+    IsBelow i = (x : T) × (item i ≡ Some x) × (standing x ≡ Less)
 
-  -- the number is gone, and the others stand as they stood
-  abbrev pub Loses : List ℕ → ℕ → List ℕ → Type 0
-  Loses all id now = (front back : List ℕ) × (all ≡ front ++ id ∷ back) × (now ≡ front ++ back)
+    -- the item under the number is not below what is sought
+    abbrev pub IsFrom : ℕ → Type 0
+    IsFrom i = (x : T) × (item i ≡ Some x) × (standing x ≢ Less)
 
-  -- the number of an equal key is gone, and its node is left over
-  abbrev pub LeavesOut : K → List ℕ → List ℕ → Option (Box (List ℕ) Global) → Type 0
-  LeavesOut k all now node = IsRun cmp key all → (i : ℕ) → Among all i → order_to cmp k (key i) ≡ Equal → Loses all i now × IsSome node
+    -- the item under the second number is below what is sought only where that under the first is, and that under the first is above it only where that under the second is
+    abbrev pub IsUpTo : ℕ → ℕ → Type 0
+    IsUpTo i j = (x y : T) × (item i ≡ Some x) × (item j ≡ Some y) × (standing y ≡ Less → standing x ≡ Less) × (standing x ≡ Greater → standing y ≡ Greater)
 
-  -- the numbers of the keys from one bound to below the other were put behind those that were there
-  abbrev pub Gathers : K → K → List ℕ → List ℕ → List ℕ → Type 0
-  Gathers low high all old new = IsRun cmp key all → (more : List ℕ) × (new ≡ old ++ more) × ((i : ℕ) → Among more i ↔ (Among all i × IsBetween cmp key low high i))
+    -- the items under these numbers come in the order in which they stand to what is sought
+    abbrev pub AreOrderly : List ℕ → Type 0
+    AreOrderly [] = Unit {0}
+    AreOrderly (i ∷ is) = ((j : ℕ) → Among is j → IsUpTo i j) × AreOrderly is
+
+    -- each of these numbers has an item, and these come in the order in which they stand to what is sought
+    pub record IsRun (order : List ℕ) : Type 0 where
+      pub live : (i : ℕ) → Among order i → IsSome (item i)
+      pub orderly : AreOrderly order
+
+    -- the numbers are cut in two: the items of the first part are below what is sought, and those of the second are not
+    pub record IsParted (all front back : List ℕ) : Type 0 where
+      pub whole : all ≡ front ++ back
+      pub below : IsRun all → AllAre standing item Less front
+      pub rest : IsRun all → (i : ℕ) → Among back i → IsFrom i
+
+    -- one number more, behind those whose items are below what is sought
+    pub record IsPlaced (all : List ℕ) (id : ℕ) (now : List ℕ) : Type 0 where
+      pub front : List ℕ
+      pub back : List ℕ
+      pub parted : IsParted all front back
+      pub placed : now ≡ front ++ id ∷ back
+
+    -- the item under this number of these alone is equal to what is sought
+    pub record IsTheOne (all : List ℕ) (id : ℕ) : Type 0 where
+      pub among : Among all id
+      pub equal : stand (item id) ≡ Equal
+      pub alone : (j : ℕ) → Among all j → stand (item j) ≡ Equal → j ≡ id
+
+    -- the number of the one equal item is gone, and its node is left over
+    abbrev pub LeavesOut : List ℕ → List ℕ → Option (Box (List ℕ) Global) → Type 0
+    LeavesOut all now node = IsRun all → (id : ℕ) → IsTheOne all id → Loses all id now × IsSome node
+
+-- the numbers of the items from one bound to below the other were put behind those that were there
+abbrev pub Gathers : {T : Type 0} → (T → Ordering) → (T → Ordering) → (ℕ → Option T) → List ℕ → List ℕ → List ℕ → Type 0
+Gathers low high item all old new = IsRun low item all → IsRun high item all → (more : List ℕ) × (new ≡ old ++ more) × ((i : ℕ) → Among more i ↔ (Among all i × IsWithin low high item i))

@@ -1,11 +1,10 @@
-//! Numbers in the order of their keys, as a tree whose nodes are moved and never made: no change of it takes memory.
+//! Numbers in the order of their items, as a tree whose nodes are moved and never made: no change of it takes memory.
 ghost use Rattle.std.specs.Prelude.{◌≡◌, ◌++◌, ◌∷◌, [], OnOk};
 ghost use Rattle.ordered_keys.specs.Keys.{key_in};
-ghost use Rattle.ordered_keys.specs.Order.{order_to};
-ghost use Rattle.ordered_keys.specs.Tree.{Gathers, IsParted, IsPlaced, LeavesOut, numbers};
+ghost use Rattle.ordered_keys.specs.Tree.{Gathers, IsParted, IsPlaced, LeavesOut, numbers, stand};
 
-use crate::probes::Probe;
 use crate::ranks::is_above;
+use crate::sought::Sought;
 use doc_tree::NoMemory;
 use std::cmp::Ordering;
 use std::marker::Model;
@@ -87,63 +86,63 @@ fn joined(front: Link, back: Link) -> Link
     }
 }
 
-/// How the key under a number stands to this.
-pub(crate) fn order_of<K: Ord, P: Probe<K>>(
-    keys: &[Option<K>],
+/// How the item under a number stands to what is sought.
+pub(crate) fn standing_at<T, S: Sought<T>>(
+    items: &[Option<T>],
     number: usize,
-    probe: &P,
+    sought: &S,
 ) -> Ordering
-    ensures { result ≡ order_to K.cmp (P.sought probe.now) (key_in keys.now number) }
+    ensures { result ≡ stand (S.standing sought.now) (key_in items.now number) }
 {
-    match keys.get(number) {
-        Some(Some(key)) => probe.order_of(key),
+    match items.get(number) {
+        Some(Some(item)) => sought.standing_of(item),
         _ => Ordering::Less,
     }
 }
 
-/// The numbers whose keys are below this, and the others.
-fn parted<K: Ord, P: Probe<K>>(tree: Link, keys: &[Option<K>], probe: &P) -> (Link, Link)
-    ensures { IsParted K.cmp (key_in keys.now) (P.sought probe.now) (numbers tree) (numbers result.0) (numbers result.1) }
+/// The numbers whose items are below what is sought, and the others.
+fn parted<T, S: Sought<T>>(tree: Link, items: &[Option<T>], sought: &S) -> (Link, Link)
+    ensures { IsParted (S.standing sought.now) (key_in items.now) (numbers tree) (numbers result.0) (numbers result.1) }
 {
     let Some(mut node) = tree else {
         return (None, None);
     };
     let (left, number, right) = node.open();
-    match order_of(keys, number, probe) {
+    match standing_at(items, number, sought) {
         Ordering::Less => {
-            let (front, back) = parted(right, keys, probe);
+            let (front, back) = parted(right, items, sought);
             node.set(left, number, front);
             (Some(node), back)
         }
         _ => {
-            let (front, back) = parted(left, keys, probe);
+            let (front, back) = parted(left, items, sought);
             node.set(back, number, right);
             (front, Some(node))
         }
     }
 }
 
-/// One number more, which stands behind those whose keys are below this. It takes over a node.
-pub(crate) fn placed<K: Ord, P: Probe<K>>(
+/// One number more, which stands behind those whose items are below what is sought. It takes over a node.
+pub(crate) fn placed<T, S: Sought<T>>(
     tree: Link,
-    keys: &[Option<K>],
-    probe: &P,
+    items: &[Option<T>],
+    sought: &S,
     number: usize,
     spare: Box<Node>,
 ) -> Link
-    ensures { IsPlaced K.cmp (key_in keys.now) (P.sought probe.now) (numbers tree) number (numbers result) }
+    ensures { IsPlaced (S.standing sought.now) (key_in items.now) (numbers tree) number (numbers result) }
 {
     match tree {
         Some(mut node) if is_above(node.number, number) => {
             let (left, at, right) = node.open();
-            match order_of(keys, at, probe) {
-                Ordering::Less => node.set(left, at, placed(right, keys, probe, number, spare)),
-                _ => node.set(placed(left, keys, probe, number, spare), at, right),
+            match standing_at(items, at, sought) {
+                Ordering::Less => node.set(left, at, placed(right, items, sought, number, spare)),
+                _ => node.set(placed(left, items, sought, number, spare), at, right),
             }
             Some(node)
         }
         tree => {
-            let (front, back) = parted(tree, keys, probe);
+            let (front, back) = parted(tree, items, sought);
             let mut node = spare;
             node.set(front, number, back);
             Some(node)
@@ -151,26 +150,22 @@ pub(crate) fn placed<K: Ord, P: Probe<K>>(
     }
 }
 
-/// The tree without the number of an equal key, and the node that is left over, where there is such a key.
-pub(crate) fn without<K: Ord, P: Probe<K>>(
-    tree: Link,
-    keys: &[Option<K>],
-    probe: &P,
-) -> (Link, Link)
-    ensures { LeavesOut K.cmp (key_in keys.now) (P.sought probe.now) (numbers tree) (numbers result.0) result.1 }
+/// The tree without the number of the equal item, and the node that is left over, where there is such an item.
+pub(crate) fn without<T, S: Sought<T>>(tree: Link, items: &[Option<T>], sought: &S) -> (Link, Link)
+    ensures { LeavesOut (S.standing sought.now) (key_in items.now) (numbers tree) (numbers result.0) result.1 }
 {
     let Some(mut node) = tree else {
         return (None, None);
     };
     let (left, number, right) = node.open();
-    match order_of(keys, number, probe) {
+    match standing_at(items, number, sought) {
         Ordering::Less => {
-            let (rest, out) = without(right, keys, probe);
+            let (rest, out) = without(right, items, sought);
             node.set(left, number, rest);
             (Some(node), out)
         }
         Ordering::Greater => {
-            let (rest, out) = without(left, keys, probe);
+            let (rest, out) = without(left, items, sought);
             node.set(rest, number, right);
             (Some(node), out)
         }
@@ -178,27 +173,27 @@ pub(crate) fn without<K: Ord, P: Probe<K>>(
     }
 }
 
-/// Puts the numbers of the keys from one bound to below the other behind those that were found before.
-pub(crate) fn gather<K: Ord, P: Probe<K>>(
+/// Puts the numbers of the items from one bound to below the other behind those that were found before.
+pub(crate) fn gather<T, S: Sought<T>>(
     tree: &Link,
-    keys: &[Option<K>],
-    low: &P,
-    high: &P,
+    items: &[Option<T>],
+    low: &S,
+    high: &S,
     found: &mut Vec<usize>,
 ) -> Result<(), NoMemory>
-    ensures { OnOk result (Gathers K.cmp (key_in keys.now) (P.sought low.now) (P.sought high.now) (numbers tree.now) found.old.items found.new.items) }
+    ensures { OnOk result (Gathers (S.standing low.now) (S.standing high.now) (key_in items.now) (numbers tree.now) found.old.items found.new.items) }
 {
     let Some(boxed) = tree else {
         return Ok(());
     };
     let node: &Node = boxed;
-    if order_of(keys, node.number, low) == Ordering::Less {
-        return gather(&node.right, keys, low, high, found);
+    if standing_at(items, node.number, low) == Ordering::Less {
+        return gather(&node.right, items, low, high, found);
     }
-    if order_of(keys, node.number, high) != Ordering::Less {
-        return gather(&node.left, keys, low, high, found);
+    if standing_at(items, node.number, high) != Ordering::Less {
+        return gather(&node.left, items, low, high, found);
     }
-    gather(&node.left, keys, low, high, found)?;
+    gather(&node.left, items, low, high, found)?;
     found.push(node.number)?;
-    gather(&node.right, keys, low, high, found)
+    gather(&node.right, items, low, high, found)
 }

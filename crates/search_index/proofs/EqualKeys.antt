@@ -7,10 +7,9 @@ use Rattle.std.specs.Cmp.Lexicographic.{slice_cmp}
 use Rattle.std.proofs.lemmas.Map.Lookups.{exact_bytes, exact_unsigned}
 use Rattle.search_query.specs.Pair.{Pair, pair_cmp}
 use Rattle.search_index.specs.Scope.{scope_cmp}
-use Rattle.search_index.specs.KeyOrder.{object_cmp, term_cmp}
+use Rattle.search_index.specs.KeyOrder.{TermKey, object_cmp, term_cmp}
 use Rattle.search_index.specs.declared.scope.Scope.{Scope}
 use Rattle.search_index.specs.declared.key.ObjectKey.{ObjectKey}
-use Rattle.search_index.specs.declared.key.TermKey.{TermKey}
 
 pub both_equal : (a b : Ordering) → ordering_then a b ≡ Equal → (a ≡ Equal) × (b ≡ Equal)
 both_equal Less b e = absurd (cc)

@@ -5,9 +5,8 @@ use Rattle.std.proofs.lemmas.List.{append_assoc, append-nil, length-append}
 use Rattle.search_query.specs.Pair.{Pair}
 use Rattle.search_index.specs.declared.scope.Scope.{Scope}
 use Rattle.search_index.specs.declared.key.ObjectKey.{ObjectKey}
-use Rattle.search_index.specs.declared.key.TermKey.{TermKey}
 use Rattle.ordered_keys.specs.Keys.{Keys, Inserts, IsAbsent, IsOnce, Numbers, key_of}
-use Rattle.search_index.specs.KeyOrder.{object_cmp, object_cmp_total, object_key}
+use Rattle.search_index.specs.KeyOrder.{TermKey, object_cmp, object_cmp_total, object_key}
 use Rattle.search_index.specs.Net.{Net, held, used}
 use Rattle.search_index.specs.Arena.{Contents, Member, HasObject, Holds, LosesRoom, AddsObject, IsTied, IsWhole, AddsTerm}
 use Rattle.search_index.proofs.EqualKeys.{same_objects}

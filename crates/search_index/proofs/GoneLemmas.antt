@@ -4,9 +4,8 @@ use Rattle.std.proofs.lemmas.Bool.{cases_eq}
 use Rattle.std.specs.Cmp.{tied_itself}
 use Rattle.search_index.specs.declared.scope.Scope.{Scope}
 use Rattle.search_index.specs.declared.key.ObjectKey.{ObjectKey}
-use Rattle.search_index.specs.declared.key.TermKey.{TermKey}
 use Rattle.ordered_keys.specs.Keys.{Keys, IsAbsent, IsAt, Removes, key_of}
-use Rattle.search_index.specs.KeyOrder.{object_cmp, object_cmp_total, object_key}
+use Rattle.search_index.specs.KeyOrder.{TermKey, object_cmp, object_cmp_total, object_key}
 use Rattle.search_index.specs.Scope.{scope_cmp, scope_cmp_total}
 use Rattle.search_index.specs.Net.{Net, HasNone, IsUnused, Widens, held, used}
 use Rattle.search_index.specs.Arena.{Contents, HasObject, LosesRoom, DropsObject, SameObjects, IsTied, IsWhole, DropsFirst}

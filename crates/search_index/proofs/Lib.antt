@@ -2,6 +2,9 @@ pub mod ChainLemmas
 pub mod NetLemmas
 pub mod WalkLemmas
 pub mod EqualKeys
+pub mod WordLemmas
+pub mod UseLemmas
+pub mod TermLemmas
 pub mod GivenLemmas
 pub mod GoneLemmas
 pub mod PlaceLemmas

@@ -5,11 +5,10 @@ use Rattle.std.proofs.lemmas.List.{append-nil, append_assoc}
 use Rattle.search_query.specs.Pair.{Pair}
 use Rattle.search_index.specs.declared.scope.Scope.{Scope}
 use Rattle.search_index.specs.declared.key.ObjectKey.{ObjectKey}
-use Rattle.search_index.specs.declared.key.TermKey.{TermKey}
 use Rattle.ordered_keys.specs.Keys.{IsOnce, Keys, key_of}
 use Rattle.ordered_keys.specs.Numbers.{Among}
 use Rattle.ordered_keys.proofs.NumberLemmas.{Among-left, Among-right}
-use Rattle.search_index.specs.KeyOrder.{object_key}
+use Rattle.search_index.specs.KeyOrder.{TermKey, object_key}
 use Rattle.search_index.specs.Net.{Net, held, used}
 use Rattle.search_index.specs.Arena.{AddsObject, ArePlaces, Contents, DropsAt, DropsFirst, DropsObject, HasObject, HasRoom, Holds, IsTied, IsWhole, LosesRoom, Member, ReplacesObject}
 use Rattle.search_index.proofs.GivenLemmas.{Given, term_of}

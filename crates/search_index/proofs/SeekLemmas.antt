@@ -10,14 +10,13 @@ use Rattle.query_text.specs.declared.term.Wanted.{Wanted}
 use Rattle.search_query.specs.Pair.{Pair, pair, pair_cmp}
 use Rattle.search_query.specs.Matching.{Meets, MeetsAll, MeetsItem, HasWanted, IsWanted, turned}
 use Rattle.search_query.proofs.MeetLemmas.{item_meets}
-use Rattle.search_index.specs.declared.key.TermKey.{TermKey}
 use Rattle.search_index.specs.declared.found.Found.{Found}
 use Rattle.search_index.specs.declared.bounds.Bounds.{Bounds}
 use Rattle.search_index.specs.Bounds.{IsBounded}
 use Rattle.ordered_keys.specs.Numbers.{Among}
 use Rattle.search_index.specs.Found.{has, is_in}
 use Rattle.ordered_keys.specs.Keys.{Keys, AreBetween}
-use Rattle.search_index.specs.KeyOrder.{term_cmp, term_key}
+use Rattle.search_index.specs.KeyOrder.{TermKey, term_cmp, term_key}
 use Rattle.search_index.specs.Net.{Net, Has}
 use Rattle.search_index.specs.Arena.{Member}
 use Rattle.search_index.specs.Seeking.{Finds, Gives, HasGiven, PairsAt, Spares}

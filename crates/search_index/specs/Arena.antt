@@ -1,14 +1,13 @@
 -- Scopes, objects and terms under numbers, and the postings between them.
 use Rattle.std.specs.Prelude.{◌≡◌, ◌⊎◌, ◌↔◌, ℕ, ◌+◌, ◌-◌, ◌≤◌, List, [], ◌∷◌, length, min, Some, IsSome, refl}
 use Rattle.std.specs.Coded.{Coded, code_by, coded×, coded_list, coded_ℕ}
-use Rattle.search_query.specs.Pair.{Pair, pair_code}
+use Rattle.search_query.specs.Pair.{Pair}
 use Rattle.search_index.specs.declared.scope.Scope.{Scope}
 use Rattle.search_index.specs.declared.key.ObjectKey.{ObjectKey}
-use Rattle.search_index.specs.declared.key.TermKey.{TermKey}
 use Rattle.ordered_keys.specs.Keys.{Keys, IsOnce, Numbers, key_of, keys_code}
 use Rattle.ordered_keys.specs.Numbers.{Among}
 use Rattle.search_index.specs.Net.{Net, Adds, IsOf, IsUnused, Takes, held, net_code, used}
-use Rattle.search_index.specs.KeyOrder.{object_key}
+use Rattle.search_index.specs.KeyOrder.{TermKey, object_key, term_code}
 
 -- what an index has: scopes, objects and terms under numbers, and the postings between these
 pub record Contents : Type 0 where
@@ -83,10 +82,6 @@ scope_code = code_by (List ℕ × List ℕ) (coded× (coded_list coded_ℕ) (cod
 -- how the logic stores an object's key
 abbrev pub object_code : Coded ObjectKey
 object_code = code_by (ℕ × List ℕ) (coded× coded_ℕ (coded_list coded_ℕ)) (λ k. (k.scope, k.name)) (λ p. record { scope = p.0; name = p.1 }) (λ _. refl)
-
--- how the logic stores a term's key
-abbrev pub term_code : Coded TermKey
-term_code = code_by (ℕ × Pair) (coded× coded_ℕ pair_code) (λ k. (k.scope, k.pair)) (λ p. record { scope = p.0; pair = p.1 }) (λ _. refl)
 
 -- how the logic stores what an index has
 abbrev pub contents_code : Coded Contents

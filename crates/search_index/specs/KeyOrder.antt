@@ -1,12 +1,21 @@
 -- The keys of objects and terms, and their order, for the private clauses.
-use Rattle.std.specs.Prelude.{ℕ, Bool, List}
+use Rattle.std.specs.Prelude.{ℕ, Bool, List, refl}
+use Rattle.std.specs.Coded.{Coded, code_by, coded×, coded_ℕ}
 use Rattle.std.specs.declared.cmp.Ordering.{Ordering}
 use Rattle.std.specs.Ordering.{nat_cmp, ordering_then, eq_by_cmp}
 use Rattle.std.specs.Cmp.{IsTotalOrder, then_total, on_total, nat_cmp_total}
 use Rattle.std.specs.Cmp.Lexicographic.{slice_cmp, nat_list_cmp_total}
-use Rattle.search_query.specs.Pair.{pair, pair_cmp, pair_cmp_total}
+use Rattle.search_query.specs.Pair.{Pair, pair, pair_cmp, pair_cmp_total, pair_code}
 use Rattle.search_index.specs.declared.key.ObjectKey.{ObjectKey}
-use Rattle.search_index.specs.declared.key.TermKey.{TermKey}
+
+-- a pair of a scope, by the number of the scope
+pub record TermKey : Type 0 where
+  pub scope : ℕ
+  pub pair : Pair
+
+-- how the logic stores a term's key
+abbrev pub term_code : Coded TermKey
+term_code = code_by (ℕ × Pair) (coded× coded_ℕ pair_code) (λ k. (k.scope, k.pair)) (λ p. record { scope = p.0; pair = p.1 }) (λ _. refl)
 
 -- the object of this name in a scope
 abbrev pub object_key : ℕ → List ℕ → ObjectKey
@@ -31,10 +40,6 @@ object_cmp_total = then_total (on_total (λ (k : ObjectKey). k.scope) nat_cmp_to
 -- terms are in the order of their scopes, and then of their pairs
 abbrev pub term_cmp : TermKey → TermKey → Ordering
 term_cmp x y = ordering_then (nat_cmp x.scope y.scope) (pair_cmp x.pair y.pair)
-
--- two terms are the same
-abbrev pub same_term : TermKey → TermKey → Bool
-same_term = eq_by_cmp term_cmp
 
 -- any two terms are in order
 pub term_cmp_total : IsTotalOrder term_cmp

@@ -3,6 +3,8 @@ pub mod Chains
 pub mod Net
 pub mod Scope
 pub mod KeyOrder
+pub mod Words
+pub mod Terms
 pub mod Arena
 pub mod Found
 pub mod Names

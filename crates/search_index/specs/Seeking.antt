@@ -3,12 +3,11 @@ use Rattle.std.specs.Prelude.{◌≡◌, ◌↔◌, ℕ, IsTrue, List, Some}
 use Rattle.query_text.specs.declared.term.Wanted.{Wanted}
 use Rattle.search_query.specs.Pair.{Pair}
 use Rattle.search_query.specs.Matching.{IsWanted}
-use Rattle.search_index.specs.declared.key.TermKey.{TermKey}
 use Rattle.search_index.specs.declared.key.ObjectKey.{ObjectKey}
 use Rattle.search_index.specs.declared.found.Found.{Found}
 use Rattle.search_index.specs.Found.{has}
 use Rattle.ordered_keys.specs.Keys.{Keys, key_of}
-use Rattle.search_index.specs.KeyOrder.{object_key}
+use Rattle.search_index.specs.KeyOrder.{TermKey, object_key}
 use Rattle.search_index.specs.Names.{lists_name}
 use Rattle.search_index.specs.Net.{Net, Has}
 use Rattle.search_index.specs.Arena.{Member}

@@ -5,10 +5,10 @@ ghost use Rattle.search_index.specs.Seeking.{Gives, HasGiven};
 
 use crate::bounds::{bounds_of, is_one};
 use crate::found::{Found, Numbers};
-use crate::key::{TermAt, TermKey};
+use crate::key::TermAt;
 use crate::postings::Postings;
+use crate::terms::Terms;
 use doc_tree::NoMemory;
-use ordered_keys::Ordered;
 use query_text::Wanted;
 use search_query::is_wanted;
 use std::alloc::Global;
@@ -23,9 +23,9 @@ const STEPS_OF_A_LOOK: usize = 16;
 /// else the terms of the field are gone through.
 pub(crate) fn with_field(
     alloc: Global,
-    terms: &Ordered<TermKey>,
+    terms: &Terms,
     postings: &Postings,
-    scope: usize,
+    scope: u32,
     among: &Found,
     field: &[u8],
     wanted: &Wanted,
@@ -52,9 +52,9 @@ pub(crate) fn with_field(
 /// Whether to look at so many objects is less to do than to go through the terms with a wanted value and their objects.
 fn are_fewer(
     alloc: Global,
-    terms: &Ordered<TermKey>,
+    terms: &Terms,
     postings: &Postings,
-    scope: usize,
+    scope: u32,
     count: usize,
     field: &[u8],
     wanted: &Wanted,
@@ -69,8 +69,8 @@ fn are_fewer(
 /// The number of the term with the one value that is wanted, if it is there; `None` where more than one may be wanted.
 pub(crate) fn number_of_one(
     alloc: Global,
-    terms: &Ordered<TermKey>,
-    scope: usize,
+    terms: &Terms,
+    scope: u32,
     field: &[u8],
     wanted: &Wanted,
 ) -> Result<Option<Option<usize>>, NoMemory> {
@@ -88,9 +88,9 @@ pub(crate) fn number_of_one(
 /// Those of some objects that have a wanted value at a field, each looked at by itself.
 fn of_each(
     alloc: Global,
-    terms: &Ordered<TermKey>,
+    terms: &Terms,
     postings: &Postings,
-    scope: usize,
+    scope: u32,
     objects: &Numbers,
     field: &[u8],
     wanted: &Wanted,
@@ -109,9 +109,9 @@ fn of_each(
 /// Whether an object has a wanted value at a field: its terms are gone through.
 fn has_given(
     alloc: Global,
-    terms: &Ordered<TermKey>,
+    terms: &Terms,
     postings: &Postings,
-    scope: usize,
+    scope: u32,
     object: usize,
     field: &[u8],
     wanted: &Wanted,
@@ -131,9 +131,9 @@ fn has_given(
 /// bound to the other.
 fn at_field(
     alloc: Global,
-    terms: &Ordered<TermKey>,
+    terms: &Terms,
     postings: &Postings,
-    scope: usize,
+    scope: u32,
     field: &[u8],
     wanted: &Wanted,
 ) -> Result<Numbers, NoMemory>
@@ -162,18 +162,12 @@ fn at_field(
 }
 
 /// Whether a term is of this scope and field, with a wanted value.
-fn gives(
-    terms: &Ordered<TermKey>,
-    number: usize,
-    scope: usize,
-    field: &[u8],
-    wanted: &Wanted,
-) -> bool
+fn gives(terms: &Terms, number: usize, scope: u32, field: &[u8], wanted: &Wanted) -> bool
     ensures { IsTrue result ↔ Gives terms.now scope field.now wanted.now number }
 {
     match terms.get(number) {
-        Some(key) => {
-            key.scope == scope && key.pair.field() == field && is_wanted(wanted, key.pair.value())
+        Some(term) => {
+            term.scope == scope && term.field == field && is_wanted(wanted, term.value)
         }
         None => false,
     }

@@ -14,11 +14,12 @@ ghost use Rattle.search_index.specs.declared.key.ObjectKey.{ObjectKey as Key};
 
 use crate::arena::{add, drop_at, drop_first};
 use crate::found::Found;
-use crate::key::{ObjectAt, ObjectKey, TermKey};
+use crate::key::{ObjectAt, ObjectKey};
 use crate::names::{in_order, names_of};
 use crate::postings::Postings;
-use crate::scope::{Scope, ScopeAt};
+use crate::scope::{Scope, ScopeAt, Scopes};
 use crate::seek::any;
+use crate::terms::Terms;
 use doc_tree::{NoMemory, Text, Texts};
 use ordered_keys::Ordered;
 use query_text::Query;
@@ -30,16 +31,16 @@ use std::marker::Model;
 /// each has, and how many more fit without memory.
 #[derive(Drop)]
 pub struct Index {
-    scopes: Ordered<Scope>,
+    scopes: Scopes,
     objects: Ordered<ObjectKey>,
-    terms: Ordered<TermKey>,
+    terms: Terms,
     postings: Postings,
 }
 
 /// Where an object stands: the numbers of its scope and its own, and the places of its postings.
 #[derive(Drop)]
 struct OldPlaces {
-    scope: usize,
+    scope: u32,
     object: usize,
     places: Vec<usize>,
 }
@@ -66,9 +67,9 @@ impl Index {
         ensures { IsEmpty result }
     {
         Index {
-            scopes: Ordered::none(alloc),
+            scopes: Scopes::none(alloc),
             objects: Ordered::none(alloc),
-            terms: Ordered::none(alloc),
+            terms: Terms::none(alloc),
             postings: Postings::none(alloc),
         }
     }
@@ -82,18 +83,16 @@ impl Index {
     {
         let more_scopes = objects.saturating_sub(self.scopes.room());
         let more_objects = objects.saturating_sub(self.objects.room());
-        let more_terms = terms.saturating_sub(self.terms.room());
         let Some(all_objects) = self.objects.size().checked_add(more_objects) else {
             return Err(NoMemory);
         };
-        let Some(all_terms) = self.terms.size().checked_add(more_terms) else {
+        let Some(all_terms) = self.terms.size().checked_add(terms) else {
             return Err(NoMemory);
         };
         self.postings.reserve(postings, all_objects, all_terms)?;
         self.scopes.grow(more_scopes)?;
         self.objects.grow(more_objects)?;
-        self.terms.grow(more_terms)?;
-        Ok(())
+        self.terms.reserve(terms)
     }
 
     /// Puts in an object, which isn't there, with its pairs. It takes no memory.
@@ -110,11 +109,7 @@ impl Index {
         });
         let mut left = pairs.into_vec();
         while let Some(pair) = left.pop() {
-            let key = TermKey {
-                scope: number,
-                pair,
-            };
-            add(&mut self.terms, &mut self.postings, object, key);
+            add(&mut self.terms, &mut self.postings, object, number, pair);
         }
     }
 
@@ -176,12 +171,7 @@ impl Index {
         } = old;
         let mut left = pairs.into_vec();
         while let Some(pair) = left.pop() {
-            add(
-                &mut self.terms,
-                &mut self.postings,
-                object,
-                TermKey { scope, pair },
-            );
+            add(&mut self.terms, &mut self.postings, object, scope, pair);
         }
         let mut places = places;
         while let Some(place) = places.pop() {
@@ -233,7 +223,7 @@ impl Index {
 }
 
 /// Whether a scope has no object.
-fn is_empty(objects: &Ordered<ObjectKey>, number: usize) -> bool
+fn is_empty(objects: &Ordered<ObjectKey>, number: u32) -> bool
     ensures { IsTrue result → (i : ℕ) (x : Key) → key_of objects.now i ≡ Some x → x.scope ≢ number }
 {
     let Some(next) = number.checked_add(1) else {

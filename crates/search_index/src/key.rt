@@ -1,26 +1,30 @@
-//! The keys of objects and of terms, and keys of borrowed parts to look them up by.
+//! The keys of objects and the numbers of terms, and keys of borrowed parts to look them up by.
 ghost use Rattle.std.specs.Cmp.{eq_by_cmp_equiv, partial_equiv_from_equiv, partial_order_from_total};
-ghost use Rattle.std.specs.Prelude.{◌≡◌, IfOk, Some, refl};
-ghost use Rattle.search_query.specs.Pair.{pair, pair_cmp};
-ghost use Rattle.search_index.specs.KeyOrder.{object_cmp, object_cmp_total, object_key, same_object, same_term, term_cmp, term_cmp_total, term_key};
+ghost use Rattle.std.specs.Prelude.{◌≡◌, Some, refl};
+ghost use Rattle.search_query.specs.Pair.{pair_cmp};
+ghost use Rattle.search_index.specs.Terms.{term_at};
+ghost use Rattle.search_index.specs.KeyOrder.{object_cmp, object_cmp_total, object_key, same_object, term_cmp};
 
 use doc_tree::Text;
 use ordered_keys::Probe;
-use search_query::Pair;
 use std::cmp::Ordering;
+
+/// Scopes, terms and words have no more numbers than this, so that each fits into 32 bits.
+pub(crate) const MOST_NUMBERS: usize = 0xFFFF_FFFF;
 
 /// An object, by the number of its scope and its name.
 #[derive(Drop)]
 pub(crate) struct ObjectKey {
-    pub(crate) scope: usize,
+    pub(crate) scope: u32,
     pub(crate) name: Text,
 }
 
-/// A pair of a scope, by the scope's number.
-#[derive(Drop)]
-pub(crate) struct TermKey {
-    pub(crate) scope: usize,
-    pub(crate) pair: Pair,
+/// A term by numbers: that of its scope, and those of the words of its field and of its value.
+#[derive(Clone, Copy, Drop)]
+pub(crate) struct TermNumbers {
+    pub(crate) scope: u32,
+    pub(crate) field: u32,
+    pub(crate) value: u32,
 }
 
 impl PartialEq for ObjectKey {
@@ -63,50 +67,10 @@ impl Ord for ObjectKey {
     }
 }
 
-impl PartialEq for TermKey {
-    ghost eq = { same_term };
-
-    ghost laws = { partial_equiv_from_equiv (eq_by_cmp_equiv term_cmp_total) };
-
-    fn eq(&self, other: &Self) -> bool {
-        self.cmp(other) == Ordering::Equal
-    }
-}
-
-impl Eq for TermKey {
-    ghost laws = { eq_by_cmp_equiv term_cmp_total };
-}
-
-impl PartialOrd for TermKey {
-    ghost partial_cmp = { λ x y. Some (term_cmp x y) };
-
-    ghost laws = { partial_order_from_total term_cmp_total };
-
-    fn partial_cmp(&self, other: &Self) -> Option<Ordering> {
-        Some(self.cmp(other))
-    }
-}
-
-impl Ord for TermKey {
-    ghost cmp = { term_cmp };
-
-    ghost total = { term_cmp_total };
-
-    ghost matches_partial_cmp = { λ x y. refl };
-
-    ghost matches_eq = { λ x y. refl };
-
-    fn cmp(&self, other: &Self) -> Ordering {
-        self.scope
-            .cmp(&other.scope)
-            .then_with(|| self.pair.cmp(&other.pair))
-    }
-}
-
 /// An object of borrowed parts.
 #[derive(Drop)]
 pub(crate) struct ObjectAt<'a> {
-    pub(crate) scope: usize,
+    pub(crate) scope: u32,
     pub(crate) name: &'a [u8],
 }
 
@@ -125,31 +89,29 @@ impl<'a> Probe<ObjectKey> for ObjectAt<'a> {
 /// A term of borrowed parts.
 #[derive(Drop)]
 pub(crate) struct TermAt<'a> {
-    pub(crate) scope: usize,
+    pub(crate) scope: u32,
     pub(crate) field: &'a [u8],
     pub(crate) value: &'a [u8],
 }
 
 impl<'a> TermAt<'a> {
-    // How a pair stands to the one that is sought.
-    fn order_of_pair(&self, found: &Pair) -> Ordering
-        ensures { result ≡ pair_cmp found.now (pair self.now.field.now self.now.value.now) }
+    /// How it stands to another: by the scopes, then by the bytes of the fields, and then of the values.
+    pub(crate) fn order_to(&self, other: &TermAt) -> Ordering
+        ensures { result ≡ term_cmp (term_at self.now) (term_at other.now) }
     {
-        match found.field().cmp(self.field) {
+        match self.scope.cmp(&other.scope) {
             Ordering::Less => Ordering::Less,
-            Ordering::Equal => found.value().cmp(self.value),
+            Ordering::Equal => self.pair_order_to(other),
             Ordering::Greater => Ordering::Greater,
         }
     }
-}
 
-impl<'a> Probe<TermKey> for TermAt<'a> {
-    ghost sought = { λ t. term_key t.scope t.field.now t.value.now };
-
-    fn order_of(&self, key: &TermKey) -> Ordering {
-        match key.scope.cmp(&self.scope) {
+    fn pair_order_to(&self, other: &TermAt) -> Ordering
+        ensures { result ≡ pair_cmp (term_at self.now).pair (term_at other.now).pair }
+    {
+        match self.field.cmp(other.field) {
             Ordering::Less => Ordering::Less,
-            Ordering::Equal => self.order_of_pair(&key.pair),
+            Ordering::Equal => self.value.cmp(other.value),
             Ordering::Greater => Ordering::Greater,
         }
     }

@@ -12,6 +12,8 @@ mod posting;
 mod postings;
 mod scope;
 mod seek;
+mod terms;
+mod words;
 
 pub use index::Index;
 pub use scope::{Scope, ScopeAt};

@@ -22,8 +22,8 @@ use std::alloc::Global;
 pub(crate) fn names_of(
     alloc: Global,
     objects: &Ordered<ObjectKey>,
-    scope: usize,
-    next: usize,
+    scope: u32,
+    next: u32,
     found: &Found,
 ) -> Result<Vec<Text>, NoMemory>
     requires { next ≡ scope + 1 }
@@ -45,7 +45,7 @@ pub(crate) fn names_of(
 fn names_among(
     alloc: Global,
     objects: &Ordered<ObjectKey>,
-    scope: usize,
+    scope: u32,
     numbers: &[usize],
     found: &Found,
 ) -> Result<Vec<Text>, NoMemory>
@@ -64,7 +64,7 @@ fn names_among(
 }
 
 /// The name of an object of a scope.
-fn name_in(objects: &Ordered<ObjectKey>, scope: usize, number: usize) -> Option<&Text>
+fn name_in(objects: &Ordered<ObjectKey>, scope: u32, number: usize) -> Option<&Text>
     ensures { MatchOption (option_copied result) ((name : List ℕ) → key_of objects.now number ≢ Some (object_key scope name)) (λ name. key_of objects.now number ≡ Some (object_key scope name)) }
 {
     match objects.get(number) {

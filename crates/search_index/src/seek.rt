@@ -8,10 +8,9 @@ ghost use Rattle.search_index.specs.Seeking.{Finds, Spares};
 
 use crate::fields::{number_of_one, with_field};
 use crate::found::{Found, both};
-use crate::key::TermKey;
 use crate::postings::Postings;
+use crate::terms::Terms;
 use doc_tree::NoMemory;
-use ordered_keys::Ordered;
 use query_text::{AllOf, Item, Query, Term, What};
 use std::alloc::Global;
 
@@ -22,9 +21,9 @@ const FEW: usize = 1_000;
 #[cycle(seek)]
 pub(crate) fn any(
     alloc: Global,
-    terms: &Ordered<TermKey>,
+    terms: &Terms,
     postings: &Postings,
-    scope: usize,
+    scope: u32,
     among: &Found,
     query: &Query,
 ) -> Result<Found, NoMemory>
@@ -41,9 +40,9 @@ pub(crate) fn any(
 #[cycle(seek)]
 fn all(
     alloc: Global,
-    terms: &Ordered<TermKey>,
+    terms: &Terms,
     postings: &Postings,
-    scope: usize,
+    scope: u32,
     among: &Found,
     all_of: &AllOf,
 ) -> Result<Found, NoMemory>
@@ -61,9 +60,9 @@ fn all(
 #[cycle(seek)]
 fn one(
     alloc: Global,
-    terms: &Ordered<TermKey>,
+    terms: &Terms,
     postings: &Postings,
-    scope: usize,
+    scope: u32,
     among: &Found,
     item: &Item,
 ) -> Result<Found, NoMemory>
@@ -77,9 +76,9 @@ fn one(
 #[cycle(seek)]
 fn plain(
     alloc: Global,
-    terms: &Ordered<TermKey>,
+    terms: &Terms,
     postings: &Postings,
-    scope: usize,
+    scope: u32,
     among: &Found,
     what: &What,
 ) -> Result<Found, NoMemory>
@@ -95,9 +94,9 @@ fn plain(
 /// among which it looks.
 fn begun(
     alloc: Global,
-    terms: &Ordered<TermKey>,
+    terms: &Terms,
     postings: &Postings,
-    scope: usize,
+    scope: u32,
     among: &Found,
     items: &[Item],
 ) -> Result<Found, NoMemory>
@@ -115,9 +114,9 @@ fn begun(
 /// The objects of a term that no NOT stands before, or else those among which is looked.
 fn begun_with(
     alloc: Global,
-    terms: &Ordered<TermKey>,
+    terms: &Terms,
     postings: &Postings,
-    scope: usize,
+    scope: u32,
     among: &Found,
     item: &Item,
 ) -> Result<Found, NoMemory>
@@ -132,9 +131,9 @@ fn begun_with(
 /// The place of the item that the fewest objects meet, of those that ask for one value, where they are no more than `FEW`.
 fn rarest(
     alloc: Global,
-    terms: &Ordered<TermKey>,
+    terms: &Terms,
     postings: &Postings,
-    scope: usize,
+    scope: u32,
     items: &[Item],
 ) -> Result<Option<usize>, NoMemory> {
     let mut places = Vec::new(alloc);
@@ -166,9 +165,9 @@ fn turned(nots: u8, found: Found) -> Found
 
 fn of_term(
     alloc: Global,
-    terms: &Ordered<TermKey>,
+    terms: &Terms,
     postings: &Postings,
-    scope: usize,
+    scope: u32,
     among: &Found,
     term: &Term,
 ) -> Result<Found, NoMemory>

@@ -157,6 +157,22 @@ find acme a:2 => x
 find beta a:1 => x
 "#;
 
+// Objects that share fields and values, of which one is taken out, and then another.
+const SHARED: &str = r#"save acme x {"normal":{"a":2}}
+save acme y {"normal":{"b":2,"two":"b"}}
+find acme b:2 => y
+drop acme x
+find acme a:* => -
+find acme b:2 => y
+find acme two:b => y
+save acme z {"normal":{"b":"two"}}
+drop acme y
+find acme b:2 => -
+find acme two:* => -
+find acme b:two => z
+find acme *:* => z
+"#;
+
 // What the last of a hundred saves leaves.
 const OFTEN: &str = r#"turn:99 => x
 turn:98 => -
@@ -267,6 +283,11 @@ fn scopes_otherwise(alloc: Global) -> Result<String, Fail> {
     script_otherwise(alloc, &mut index, SCOPES)
 }
 
+fn shared_otherwise(alloc: Global) -> Result<String, Fail> {
+    let mut index = Index::none(alloc);
+    script_otherwise(alloc, &mut index, SHARED)
+}
+
 #[test]
 fn queries_find_what_the_rules_say(rt: HostRuntime) -> Result<(), Fail> {
     let otherwise = worked_otherwise(rt.alloc())?;
@@ -277,6 +298,13 @@ fn queries_find_what_the_rules_say(rt: HostRuntime) -> Result<(), Fail> {
 #[test]
 fn objects_of_other_scopes_stay(rt: HostRuntime) -> Result<(), Fail> {
     let otherwise = scopes_otherwise(rt.alloc())?;
+    assert_eq!(rt; otherwise.as_str(), "");
+    Ok(())
+}
+
+#[test]
+fn fields_and_values_stay_while_an_object_has_them(rt: HostRuntime) -> Result<(), Fail> {
+    let otherwise = shared_otherwise(rt.alloc())?;
     assert_eq!(rt; otherwise.as_str(), "");
     Ok(())
 }

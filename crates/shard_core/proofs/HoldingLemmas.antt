@@ -7,10 +7,9 @@ use Rattle.std.specs.Ordering.{is_eq}
 use Rattle.search_index.proofs.EqualKeys.{same_pairs, same_scopes}
 use Rattle.search_index.specs.Arena.{Contents, HasObject, Holds}
 use Rattle.ordered_keys.specs.Keys.{key_of}
-use Rattle.search_index.specs.KeyOrder.{object_key}
+use Rattle.search_index.specs.KeyOrder.{TermKey, object_key}
 use Rattle.search_index.specs.Scope.{same_scope, scope_cmp, scope_cmp_total}
 use Rattle.search_index.specs.declared.key.ObjectKey.{ObjectKey}
-use Rattle.search_index.specs.declared.key.TermKey.{TermKey}
 use Rattle.search_index.specs.declared.scope.Scope.{Scope}
 use Rattle.search_query.specs.Pair.{Pair, pair_cmp, pair_cmp_total, same_pair}
 use Rattle.shard_core.specs.Holding.{is_object, is_pair, is_posted, is_scope, is_term, is_there, says}

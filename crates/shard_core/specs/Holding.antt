@@ -7,7 +7,7 @@ use Rattle.search_index.specs.Arena.{Contents, room_of}
 use Rattle.ordered_keys.specs.Keys.{key_of}
 use Rattle.search_index.specs.Scope.{same_scope}
 use Rattle.search_index.specs.declared.key.ObjectKey.{ObjectKey}
-use Rattle.search_index.specs.declared.key.TermKey.{TermKey}
+use Rattle.search_index.specs.KeyOrder.{TermKey}
 use Rattle.search_index.specs.declared.scope.Scope.{Scope}
 use Rattle.search_query.specs.Pair.{Pair, same_pair}
 

@@ -1,5 +1,5 @@
 -- A term without a posting is out.
-use Rattle.std.proofs.Common.{◌≡◌, ◌∙◌, inl, inr, None, sym, ap, arith}
+use Rattle.std.proofs.Common.{◌≡◌, ◌∙◌, inl, inr, None, sym, ap}
 use Rattle.std.proofs.lemmas.Bool.{cases_eq}
 use Rattle.ordered_keys.specs.Keys.{key_of}
 use Rattle.search_index.proofs.arena.drop_unused.Goals as goal
@@ -13,6 +13,6 @@ returns-then-is_unused c =
         | inl e ↦ absurd (let none : key_of c.remove.new.self j ≡ None = ap (key_of c.remove.new.self) e ∙ c.remove.ensures.gone in cc)
         | inr differs ↦ (sym (c.remove.ensures.others j differs) ∙ is, λ e. absurd (differs e))
       ];
-      room = (let more = c.remove.ensures.more in omega arith);
+      room = c.remove.ensures.room;
       size = c.remove.ensures.size;
     }

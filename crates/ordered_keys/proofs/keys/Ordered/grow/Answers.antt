@@ -1,28 +1,6 @@
--- The numbers grow one by one.
-use Rattle.std.proofs.Common.{◌≡◌, ◌+◌, length, arith, ap, subst}
-use Rattle.std.specs.Vec.{vec_capacity, vec_len}
-use Rattle.ordered_keys.specs.Keys.{Grows, Keys}
-use Rattle.ordered_keys.specs.Tree.{numbers}
-use Rattle.ordered_keys.proofs.KeyLemmas.{all_grown, growing_step}
+-- The keys rise as before.
+use Rattle.ordered_keys.proofs.OrderLemmas.{in_order_still}
 use Rattle.ordered_keys.proofs.keys.Ordered.grow.Goals as goal
 
-pub loop-fresh-preserved : goal.loop-fresh-preserved
-loop-fresh-preserved g c =
-    let was = c.loop-fresh.self-inside in
-    growing_step g.K.Ord.cmp c.reserve-2.new.self.items was.keys.items c.push_reserved.new.self.items (numbers was.order) c.reserve.new.self.items was.free.items c.push_reserved-in-loop-fresh.new.self.items
-    (vec_capacity was.free) (length was.spare.items) (vec_capacity was.spare) (vec_capacity was.keys) (vec_capacity c.push_reserved-in-loop-fresh.new.self) (vec_capacity c.push_reserved.new.self) c.loop-fresh.fresh c.in-Some.size
-    c.loop-fresh.invariant c.loop-fresh-test.true c.push_reserved.ensures.items c.push_reserved-in-loop-fresh.ensures.items c.push_reserved-in-loop-fresh.ensures.capacity c.push_reserved.ensures.capacity
-
-pub returns-clause-ok : goal.returns-clause-ok
-returns-clause-ok g c =
-    let was = c.loop-fresh.self-inside in
-    let size : c.in-Some.size ≡ c.len.result + c.args.more = c.in-Some.ensures.1 in
-    let within = c.loop-fresh.invariant.within in
-    let past = c.loop-fresh-test.false in
-    let len : c.len.result ≡ vec_len c.self.inside.keys = c.len.ensures in
-    let kept = c.reserve-2.ensures.items in
-    let ok = c.self.inside.keys.ok in
-    let number : c.loop-fresh.fresh ≡ length c.self.inside.keys.items + c.args.more = omega (arith, size, within, past, len, ok.0) in
-    subst (λ (k : Keys g.row.K.Denot). Grows k (record { slots = was.keys.items; room = length was.free.items }) c.args.more) c.self.view_is
-    (all_grown g.K.Ord.cmp c.reserve-2.new.self.items c.self.inside.keys.items was.keys.items (numbers was.order) c.reserve.new.self.items was.free.items
-    (vec_capacity was.free) (length was.spare.items) (vec_capacity was.spare) (vec_capacity was.keys) c.loop-fresh.fresh c.in-Some.size c.args.more (length c.self.inside.free.items) c.loop-fresh.invariant kept number (ap length c.reserve.ensures.items))
+pub invariant_of-self : goal.invariant_of-self
+invariant_of-self g c = in_order_still g.K.Ord.cmp g.met.K.Ord.total c.self.inside.keys c.grow.new.self c.args.more c.grow.result c.self.invariant c.grow.ensures.ok c.grow.ensures.order c.grow.ensures.err

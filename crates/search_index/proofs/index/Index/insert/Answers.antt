@@ -1,12 +1,8 @@
 -- An object is in, with its pairs.
 use Rattle.std.proofs.Common.{◌≡◌, List, [], ◌∷◌, length, refl, sym, subst, arith}
 use Rattle.search_index.specs.Arena.{AddsObject, Contents, HasObject, HasRoom}
-use Rattle.search_index.proofs.EqualKeys.{same_scopes}
 use Rattle.search_index.proofs.GivenLemmas.{Given, IsPutIn, given_all, given_begins, given_more, object_numbers, still_absent}
 use Rattle.search_index.proofs.index.Index.insert.Goals as goal
-
-pub number_of-number-requires-clause-alike : goal.number_of-number-requires-clause-alike
-number_of-number-requires-clause-alike c = same_scopes
 
 pub insert-object-requires-clause-absent : goal.insert-object-requires-clause-absent
 insert-object-requires-clause-absent c =

@@ -1,7 +1,6 @@
 -- The keys and the postings are as they were.
 use Rattle.std.proofs.Common.{length, refl, ap, subst, arith}
 use Rattle.search_index.specs.declared.key.ObjectKey.{ObjectKey}
-use Rattle.search_index.specs.declared.key.TermKey.{TermKey}
 use Rattle.ordered_keys.specs.Keys.{Keys}
 use Rattle.search_index.specs.Arena.{Contents, SameObjects}
 use Rattle.search_index.proofs.GoneLemmas.{IsReserved, kept_keys, reserved}
@@ -34,20 +33,11 @@ invariant_of-self-in_err-grow-2 c = (three c).whole
 pub returns-in_err-grow-2-clause-same : goal.returns-in_err-grow-2-clause-same
 returns-in_err-grow-2-clause-same c = subst (λ (k : Contents). SameObjects k (record { scopes = c.grow.new.self; objects = c.grow-2.new.self; terms = c.self.inside.terms; net = c.reserve.new.self })) c.self.view_is (three c).same
 
-four : (c : goal.After-from_residual-in_err-grow-3) → IsReserved (record { scopes = c.self.inside.scopes; objects = c.self.inside.objects; terms = c.self.inside.terms; net = c.self.inside.postings }) (record { scopes = c.grow.new.self; objects = c.grow-2.new.self; terms = c.grow-3.new.self; net = c.reserve.new.self })
-four c = reserved (record { scopes = c.self.inside.scopes; objects = c.self.inside.objects; terms = c.self.inside.terms; net = c.self.inside.postings }) c.grow.new.self c.grow-2.new.self c.grow-3.new.self c.reserve.new.self c.self.invariant c.in_ok-grow.ensures.ok.same c.in_ok-grow-2.ensures.ok.same (kept_keys c.self.inside.terms c.grow-3.new.self c.in_err-grow-3.ensures.err) c.reserve.ensures.same (let grown = c.in_ok-grow-2.ensures.ok.size in let all = c.in-Some.ensures.1 in let size = c.size.ensures in let wide = c.in_ok-reserve.ensures.ok.for_objects in omega arith) (let held = c.self.invariant.tied.term_heads in let wide = c.reserve.ensures.same.terms in let kept = ap (λ (k : Keys TermKey). length k.slots) c.in_err-grow-3.ensures.err in omega arith)
-
-pub invariant_of-self-in_err-grow-3 : goal.invariant_of-self-in_err-grow-3
-invariant_of-self-in_err-grow-3 c = (four c).whole
-
-pub returns-in_err-grow-3-clause-same : goal.returns-in_err-grow-3-clause-same
-returns-in_err-grow-3-clause-same c = subst (λ (k : Contents). SameObjects k (record { scopes = c.grow.new.self; objects = c.grow-2.new.self; terms = c.grow-3.new.self; net = c.reserve.new.self })) c.self.view_is (four c).same
-
-five : (c : goal.In_ok-grow-3) → IsReserved (record { scopes = c.self.inside.scopes; objects = c.self.inside.objects; terms = c.self.inside.terms; net = c.self.inside.postings }) (record { scopes = c.grow.new.self; objects = c.grow-2.new.self; terms = c.grow-3.new.self; net = c.reserve.new.self })
-five c = reserved (record { scopes = c.self.inside.scopes; objects = c.self.inside.objects; terms = c.self.inside.terms; net = c.self.inside.postings }) c.grow.new.self c.grow-2.new.self c.grow-3.new.self c.reserve.new.self c.self.invariant c.in_ok-grow.ensures.ok.same c.in_ok-grow-2.ensures.ok.same c.in_ok-grow-3.ensures.ok.same c.reserve.ensures.same (let grown = c.in_ok-grow-2.ensures.ok.size in let all = c.in-Some.ensures.1 in let size = c.size.ensures in let wide = c.in_ok-reserve.ensures.ok.for_objects in omega arith) (let grown = c.in_ok-grow-3.ensures.ok.size in let all = c.in-Some-checked_add.ensures.1 in let size = c.size-2.ensures in let wide = c.in_ok-reserve.ensures.ok.for_terms in omega arith)
+four : (c : goal.After-reserve-2) → IsReserved (record { scopes = c.self.inside.scopes; objects = c.self.inside.objects; terms = c.self.inside.terms; net = c.self.inside.postings }) (record { scopes = c.grow.new.self; objects = c.grow-2.new.self; terms = c.reserve-2.new.self; net = c.reserve.new.self })
+four c = reserved (record { scopes = c.self.inside.scopes; objects = c.self.inside.objects; terms = c.self.inside.terms; net = c.self.inside.postings }) c.grow.new.self c.grow-2.new.self c.reserve-2.new.self c.reserve.new.self c.self.invariant c.in_ok-grow.ensures.ok.same c.in_ok-grow-2.ensures.ok.same c.reserve-2.ensures.same.same c.reserve.ensures.same (let grown = c.in_ok-grow-2.ensures.ok.size in let all = c.in-Some.ensures.1 in let size = c.size.ensures in let wide = c.in_ok-reserve.ensures.ok.for_objects in omega arith) (let more = c.reserve-2.ensures.same.size in let all = c.in-Some-checked_add.ensures.1 in let size = c.size-2.ensures in let wide = c.in_ok-reserve.ensures.ok.for_terms in omega arith)
 
 pub invariant_of-self-2 : goal.invariant_of-self-2
-invariant_of-self-2 c = (five c).whole
+invariant_of-self-2 c = (four c).whole
 
 pub returns-clause-same : goal.returns-clause-same
-returns-clause-same c = subst (λ (k : Contents). SameObjects k (record { scopes = c.grow.new.self; objects = c.grow-2.new.self; terms = c.grow-3.new.self; net = c.reserve.new.self })) c.self.view_is (five c).same
+returns-clause-same c = subst (λ (k : Contents). SameObjects k (record { scopes = c.grow.new.self; objects = c.grow-2.new.self; terms = c.reserve-2.new.self; net = c.reserve.new.self })) c.self.view_is (four c).same

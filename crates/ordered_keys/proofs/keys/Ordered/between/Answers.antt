@@ -1,0 +1,9 @@
+-- Keys that rise are cut by any key.
+use Rattle.ordered_keys.proofs.OrderLemmas.{cut_by}
+use Rattle.ordered_keys.proofs.keys.Ordered.between.Goals as goal
+
+pub between-requires-clause-low : goal.between-requires-clause-low
+between-requires-clause-low g c = cut_by g.K.Ord.cmp g.met.K.Ord.total c.self.inside.keys (g.P.Probe.sought c.args.low.now) c.self.invariant
+
+pub between-requires-clause-high : goal.between-requires-clause-high
+between-requires-clause-high g c = cut_by g.K.Ord.cmp g.met.K.Ord.total c.self.inside.keys (g.P.Probe.sought c.args.high.now) c.self.invariant
