@@ -1,4 +1,5 @@
 pub mod ChainLemmas
+pub mod StoreLemmas
 pub mod NetLemmas
 pub mod WalkLemmas
 pub mod EqualKeys

@@ -5,8 +5,8 @@ use Rattle.std.proofs.lemmas.List.{append-nil, get_or_past, length-set}
 use Rattle.std.proofs.lemmas.Option.{slice_get-get_or}
 use Rattle.std.proofs.Math.ListN.{get_or-map}
 use Rattle.std.proofs.lemmas.List.Sums.{sum_by-cons, sum_by-set}
-use Rattle.slab.specs.Slab.{Slab, get, with_value, slab_len, Updates}
-use Rattle.slab.proofs.SlabLemmas.{Updates-with_value, ContainsKey-within}
+use Rattle.search_index.specs.Places.{Places, get, with_value, taken_count, Updates}
+use Rattle.search_index.proofs.StoreLemmas.{updates_written, taken_within}
 use Rattle.search_index.specs.Posting.{link, link_of, owner_of, owner_in, with_next, with_before, pair_of, other_side}
 use Rattle.ordered_keys.specs.Numbers.{Among}
 use Rattle.search_index.specs.Chains.{IsChain, IsLinked, Joins, IsWithout, IsWith}
@@ -21,26 +21,26 @@ pub cases_option : {X : Type 0} (o : Option X) → (o ≡ None) ⊎ ((x : X) × 
 cases_option None = inl refl
 cases_option (Some x) = inr (x, refl)
 
-changed_some : (s : Slab Posting) (p : ℕ) (f : Posting → Posting) (x : Posting) → get s p ≡ Some x → changed_at s (Some p) f ≡ with_value s p (f x)
+changed_some : (s : Places) (p : ℕ) (f : Posting → Posting) (x : Posting) → get s p ≡ Some x → changed_at s (Some p) f ≡ with_value s p (f x)
 changed_some s p f x e = rw (e, changed_at) refl
 
-changed_none : (s : Slab Posting) (p : ℕ) (f : Posting → Posting) → get s p ≡ None → changed_at s (Some p) f ≡ s
+changed_none : (s : Places) (p : ℕ) (f : Posting → Posting) → get s p ≡ None → changed_at s (Some p) f ≡ s
 changed_none s p f e = rw (e, changed_at) refl
 
-updates : (s : Slab Posting) (p : ℕ) (f : Posting → Posting) (x : Posting) → get s p ≡ Some x → Updates s (changed_at s (Some p) f) p (Some (f x))
-updates s p f x e = subst (λ t. Updates s t p (Some (f x))) (sym (changed_some s p f x e)) (Updates-with_value s p (f x) (rw e refl))
+updates : (s : Places) (p : ℕ) (f : Posting → Posting) (x : Posting) → get s p ≡ Some x → Updates s (changed_at s (Some p) f) p (Some (f x))
+updates s p f x e = subst (λ t. Updates s t p (Some (f x))) (sym (changed_some s p f x e)) (updates_written s p (f x) (rw e refl))
 
-other_read : (s : Slab Posting) (place : Option ℕ) (f : Posting → Posting) (q : ℕ) → place ≢ Some q → get (changed_at s place f) q ≡ get s q
+other_read : (s : Places) (place : Option ℕ) (f : Posting → Posting) (q : ℕ) → place ≢ Some q → get (changed_at s place f) q ≡ get s q
 other_read s None f q differs = refl
 other_read s (Some p) f q differs = elim (cases_option (get s p)) [
   | inl e ↦ ap (λ t. get t q) (changed_none s p f e)
   | inr (x, e) ↦ (updates s p f x e).others q (λ same. differs (ap Some (sym same)))
 ]
 
-here_read : (s : Slab Posting) (q : ℕ) (f : Posting → Posting) (x : Posting) → get s q ≡ Some x → get (changed_at s (Some q) f) q ≡ Some (f x)
+here_read : (s : Places) (q : ℕ) (f : Posting → Posting) (x : Posting) → get s q ≡ Some x → get (changed_at s (Some q) f) q ≡ Some (f x)
 here_read s q f x e = (updates s q f x e).changed
 
-pub same_read : {Y : Type 0} (g : Posting → Y) (f : Posting → Posting) → ((x : Posting) → g (f x) ≡ g x) → (s : Slab Posting) (place : Option ℕ) (q : ℕ) → option_map g (get (changed_at s place f) q) ≡ option_map g (get s q)
+pub same_read : {Y : Type 0} (g : Posting → Y) (f : Posting → Posting) → ((x : Posting) → g (f x) ≡ g x) → (s : Places) (place : Option ℕ) (q : ℕ) → option_map g (get (changed_at s place f) q) ≡ option_map g (get s q)
 same_read g f same s None q = refl
 same_read g f same s (Some p) q = elim (cases_eq q p) [
   | inr differs ↦ ap (option_map g) (other_read s (Some p) f q (λ e. let back : p ≡ q = cc in differs (sym back)))
@@ -50,23 +50,23 @@ same_read g f same s (Some p) q = elim (cases_eq q p) [
   ]
 ]
 
-pub changed-len : (s : Slab Posting) (place : Option ℕ) (f : Posting → Posting) → slab_len (changed_at s place f) ≡ slab_len s
+pub changed-len : (s : Places) (place : Option ℕ) (f : Posting → Posting) → taken_count (changed_at s place f) ≡ taken_count s
 changed-len s None f = refl
 changed-len s (Some p) f = elim (cases_option (get s p)) [
-  | inl e ↦ ap slab_len (changed_none s p f e)
+  | inl e ↦ ap taken_count (changed_none s p f e)
   | inr (x, e) ↦
       let count : Option Posting → ℕ = λ o. cond (is_some o) 1 0 in
-      let sums = sum_by-set count s.slots p (Some (f x)) None (ContainsKey-within s p (rw e refl)) in
+      let sums = sum_by-set count s.slots p (Some (f x)) None (taken_within s p (rw e refl)) in
       let was : count (get s p) ≡ 1 = ap count e in
       let now : sum_by count (set s.slots p (Some (f x))) ≡ sum_by count s.slots = omega arith in
-      ap slab_len (changed_some s p f x e) ∙ now
+      ap taken_count (changed_some s p f x e) ∙ now
 ]
 
-pub changed-capacity : (s : Slab Posting) (place : Option ℕ) (f : Posting → Posting) → (changed_at s place f).capacity ≡ s.capacity
+pub changed-capacity : (s : Places) (place : Option ℕ) (f : Posting → Posting) → (changed_at s place f).capacity ≡ s.capacity
 changed-capacity s None f = refl
 changed-capacity s (Some p) f = elim (cases_option (get s p)) [
-  | inl e ↦ ap (λ (t : Slab Posting). t.capacity) (changed_none s p f e)
-  | inr (x, e) ↦ ap (λ (t : Slab Posting). t.capacity) (changed_some s p f x e)
+  | inl e ↦ ap (λ (t : Places). t.capacity) (changed_none s p f e)
+  | inr (x, e) ↦ ap (λ (t : Places). t.capacity) (changed_some s p f x e)
 ]
 
 -- ---- links and owners
@@ -99,17 +99,17 @@ pub owner_pair : (s : Side) (x : Posting) → owner_in s (pair_of x) ≡ owner_o
 owner_pair side.Term x = refl
 owner_pair side.Object x = refl
 
-read_link : (s : Side) (items : Slab Posting) (q : ℕ) (l : Link) → links s items q ≡ Some l → (x : Posting) × (get items q ≡ Some x) × (link_of s x ≡ l)
+read_link : (s : Side) (items : Places) (q : ℕ) (l : Link) → links s items q ≡ Some l → (x : Posting) × (get items q ≡ Some x) × (link_of s x ≡ l)
 read_link s items q l e = elim (cases_option (get items q)) [
   | inl none ↦ let f : links s items q ≡ None = ap (option_map (link_of s)) none in absurd (cc)
   | inr (x, is) ↦ let f : links s items q ≡ Some (link_of s x) = ap (option_map (link_of s)) is in (x, is, let same : link_of s x ≡ l = cc in same)
 ]
 
 -- both neighbours of a place were written
-pub rejoined : Side → Slab Posting → Option ℕ → Option ℕ → Slab Posting
+pub rejoined : Side → Places → Option ℕ → Option ℕ → Places
 rejoined s items b n = changed_at (changed_at items b (with_next s n)) n (with_before s b)
 
-pub joined : (s : Side) (items : Slab Posting) (b n : Option ℕ) → ((z : ℕ) → b ≡ Some z → n ≡ Some z → ⊥) → Joins (links s items) (links s (rejoined s items b n)) b n
+pub joined : (s : Side) (items : Places) (b n : Option ℕ) → ((z : ℕ) → b ≡ Some z → n ≡ Some z → ⊥) → Joins (links s items) (links s (rejoined s items b n)) b n
 unfolding rejoined
 joined s items b n differ = record {
   front = λ x l e is.
@@ -127,12 +127,12 @@ joined s items b n differ = record {
   others = λ x e f. ap (option_map (link_of s)) (other_read (changed_at items b (with_next s n)) n (with_before s b) x f ∙ other_read items b (with_next s n) x e);
 }
 
-pub rejoined_same : {Y : Type 0} (g : Posting → Y) (s : Side) → ((n : Option ℕ) (x : Posting) → g (with_next s n x) ≡ g x) → ((b : Option ℕ) (x : Posting) → g (with_before s b x) ≡ g x) → (items : Slab Posting) (b n : Option ℕ) (q : ℕ) → option_map g (get (rejoined s items b n) q) ≡ option_map g (get items q)
+pub rejoined_same : {Y : Type 0} (g : Posting → Y) (s : Side) → ((n : Option ℕ) (x : Posting) → g (with_next s n x) ≡ g x) → ((b : Option ℕ) (x : Posting) → g (with_before s b x) ≡ g x) → (items : Places) (b n : Option ℕ) (q : ℕ) → option_map g (get (rejoined s items b n) q) ≡ option_map g (get items q)
 unfolding rejoined
 rejoined_same g s one two items b n q = same_read g (with_before s b) (two b) (changed_at items b (with_next s n)) n q ∙ same_read g (with_next s n) (one n) items b q
 
 -- a posting out of one of its chains
-pub unlinked : (s : Side) (old new : Slab Posting) (heads less : List (Option ℕ)) (place : ℕ) (x : Posting)
+pub unlinked : (s : Side) (old new : Places) (heads less : List (Option ℕ)) (place : ℕ) (x : Posting)
     → get old place ≡ Some x → IsLinked (links s old) (owners s (pairs old)) heads
     → new ≡ changed_at (changed_at old (link_of s x).before (with_next s (link_of s x).next)) (link_of s x).next (with_before s (link_of s x).before)
     → less ≡ heads_without heads (owner_of s x) (link_of s x).before (link_of s x).next
@@ -150,18 +150,18 @@ unlinked s old new heads less place x at was written headed =
           (joined s old b n (neighbours_differ (links s old) (owners s (pairs old)) heads (owner_of s x) place (link_of s x) was mine is)) without));
       pairs = λ q. ap (λ z. pairs z q) whole ∙ rejoined_same pair_of s (next_pair s) (before_pair s) old b n q;
       other = λ q. ap (λ z. links (other_side s) z q) whole ∙ rejoined_same (link_of (other_side s)) s (next_other s) (before_other s) old b n q;
-      len = ap slab_len written ∙ changed-len (changed_at old b (with_next s n)) n (with_before s b) ∙ changed-len old b (with_next s n);
-      capacity = ap (λ (t : Slab Posting). t.capacity) written ∙ changed-capacity (changed_at old b (with_next s n)) n (with_before s b) ∙ changed-capacity old b (with_next s n);
+      len = ap taken_count written ∙ changed-len (changed_at old b (with_next s n)) n (with_before s b) ∙ changed-len old b (with_next s n);
+      capacity = ap (λ (t : Places). t.capacity) written ∙ changed-capacity (changed_at old b (with_next s n)) n (with_before s b) ∙ changed-capacity old b (with_next s n);
       count = ap length headed ∙ length-heads_without heads (owner_of s x) b n;
     }
 
 -- the owner of a posting has a head
-pub owner_headed : (s : Side) (items : Slab Posting) (heads : List (Option ℕ)) (place : ℕ) (x : Posting) → get items place ≡ Some x → IsLinked (links s items) (owners s (pairs items)) heads → owner_of s x < length heads
+pub owner_headed : (s : Side) (items : Places) (heads : List (Option ℕ)) (place : ℕ) (x : Posting) → get items place ≡ Some x → IsLinked (links s items) (owners s (pairs items)) heads → owner_of s x < length heads
 owner_headed s items heads place x at linked = linked.headed place (owner_of s x) (ap (λ o. option_map (owner_in s) (option_map pair_of o)) at ∙ ap Some (owner_pair s x))
 
 -- ---- what contracts see
 
-pub held-net : (items : Slab Posting) (objects terms : List (Option ℕ)) (q : ℕ) → held (net_of items objects terms) q ≡ pairs items q
+pub held-net : (items : Places) (objects terms : List (Option ℕ)) (q : ℕ) → held (net_of items objects terms) q ≡ pairs items q
 held-net items objects terms q = get_or-map (option_map pair_of) items.slots q None
 
 counted : (slots : List (Option Posting)) → count_by is_some (map (option_map pair_of) slots) ≡ count_by is_some slots
@@ -175,7 +175,7 @@ counted (Some x ∷ slots) =
     let two = sum_by-cons (λ (o : Option Posting). cond (is_some o) 1 0) (Some x) slots in
     omega (arith, counted slots, one, two)
 
-pub used-net : (items : Slab Posting) (objects terms : List (Option ℕ)) → used (net_of items objects terms) ≡ slab_len items
+pub used-net : (items : Places) (objects terms : List (Option ℕ)) → used (net_of items objects terms) ≡ taken_count items
 used-net items objects terms = counted items.slots
 
 -- ---- heads
@@ -202,10 +202,10 @@ unheaded m owner heads h linked e q mine =
 
 -- ---- a posting out of both chains
 
-pub kept_side : (s : Side) (one two : Slab Posting) (heads : List (Option ℕ)) → ((q : ℕ) → pairs two q ≡ pairs one q) → ((q : ℕ) → links s two q ≡ links s one q) → IsLinked (links s one) (owners s (pairs one)) heads → IsLinked (links s two) (owners s (pairs two)) heads
+pub kept_side : (s : Side) (one two : Places) (heads : List (Option ℕ)) → ((q : ℕ) → pairs two q ≡ pairs one q) → ((q : ℕ) → links s two q ≡ links s one q) → IsLinked (links s one) (owners s (pairs one)) heads → IsLinked (links s two) (owners s (pairs two)) heads
 kept_side s one two heads same linked was = linked_kept (links s one) (links s two) (owners s (pairs one)) (owners s (pairs two)) heads (λ q h e. linked q) (λ q. ap (option_map (owner_in s)) (same q)) was
 
-removed_side : (s : Side) (old items less : Slab Posting) (heads fewer : List (Option ℕ)) (place : ℕ) → Updates items less place None → ((q : ℕ) → pairs items q ≡ pairs old q)
+removed_side : (s : Side) (old items less : Places) (heads fewer : List (Option ℕ)) (place : ℕ) → Updates items less place None → ((q : ℕ) → pairs items q ≡ pairs old q)
     → ((owner : ℕ → Option ℕ) → IsWithout (owners s (pairs old)) owner place → IsLinked (links s items) owner fewer) → IsLinked (links s less) (owners s (pairs less)) fewer
 removed_side s old items less heads fewer place updates same linked =
     let owner = owners s (pairs less) in
@@ -219,14 +219,14 @@ removed_side s old items less heads fewer place updates same linked =
     (λ q. refl) (linked owner without)
 
 -- a posting was taken out
-pub record IsTaken (items less : Slab Posting) (objects terms fewer_objects fewer_terms : List (Option ℕ)) (place : ℕ) (x : Posting) : Type 0 where
+pub record IsTaken (items less : Places) (objects terms fewer_objects fewer_terms : List (Option ℕ)) (place : ℕ) (x : Posting) : Type 0 where
   pub sound : IsSound less fewer_objects fewer_terms
   pub takes : Takes (net_of items objects terms) (net_of less fewer_objects fewer_terms) x.object x.term
   pub at : takes.place ≡ place
 
-pub taken : (items one two less : Slab Posting) (objects terms fewer_objects fewer_terms : List (Option ℕ)) (place : ℕ) (x : Posting)
+pub taken : (items one two less : Places) (objects terms fewer_objects fewer_terms : List (Option ℕ)) (place : ℕ) (x : Posting)
     → IsSound items objects terms → get items place ≡ Some x → Unlinks side.Term items one terms fewer_terms place → Unlinks side.Object one two objects fewer_objects place
-    → Updates two less place None → slab_len less + 1 ≡ slab_len two → less.capacity ≡ two.capacity → IsTaken items less objects terms fewer_objects fewer_terms place x
+    → Updates two less place None → taken_count less + 1 ≡ taken_count two → less.capacity ≡ two.capacity → IsTaken items less objects terms fewer_objects fewer_terms place x
 taken items one two less objects terms fewer_objects fewer_terms place x sound at of_term of_object updates len capacity =
     let pairs_one : (q : ℕ) → pairs one q ≡ pairs items q = of_term.pairs in
     let pairs_two : (q : ℕ) → pairs two q ≡ pairs items q = λ q. of_object.pairs q ∙ of_term.pairs q in
@@ -252,7 +252,7 @@ taken items one two less objects terms fewer_objects fewer_terms place x sound a
 
 -- ---- a posting into both chains
 
-side_pushes : (s : Side) (items t : Slab Posting) (owner more : ℕ → Option ℕ) (heads : List (Option ℕ)) (h place : ℕ) (first : Option ℕ)
+side_pushes : (s : Side) (items t : Places) (owner more : ℕ → Option ℕ) (heads : List (Option ℕ)) (h place : ℕ) (first : Option ℕ)
     → IsLinked (links s items) owner heads → slice_get heads h ≡ Some first → IsWith owner more place h → links s items place ≡ None → links s t place ≡ Some (link None first)
     → ((q : ℕ) → q ≢ place → links s t q ≡ links s items q) → IsLinked (links s (changed_at t first (with_before s (Some place)))) more (set heads h (Some place))
 side_pushes s items t owner more heads h place first linked at with none is same =
@@ -270,14 +270,14 @@ side_pushes s items t owner more heads h place first linked at with none is same
     (λ y differs e. ap (option_map (link_of s)) (other_read t first (with_before s (Some place)) y e) ∙ same y differs)
 
 -- a posting was put in
-pub record IsAdded (items more : Slab Posting) (objects terms more_objects more_terms : List (Option ℕ)) (object term : ℕ) : Type 0 where
+pub record IsAdded (items more : Places) (objects terms more_objects more_terms : List (Option ℕ)) (object term : ℕ) : Type 0 where
   pub sound : IsSound more more_objects more_terms
   pub adds : Adds (net_of items objects terms) (net_of more more_objects more_terms) object term
 
-pub added : (items one two three : Slab Posting) (objects terms : List (Option ℕ)) (object term place : ℕ) (first_object first_term : Option ℕ)
+pub added : (items one two three : Places) (objects terms : List (Option ℕ)) (object term place : ℕ) (first_object first_term : Option ℕ)
     → IsSound items objects terms → slice_get objects object ≡ Some first_object → slice_get terms term ≡ Some first_term → get items place ≡ None
     → Updates items one place (Some (record { object = object; term = term; of_object = link None first_object; of_term = link None first_term }))
-    → slab_len one ≡ slab_len items + 1 → one.capacity ≡ items.capacity
+    → taken_count one ≡ taken_count items + 1 → one.capacity ≡ items.capacity
     → two ≡ changed_at one first_object (with_before side.Object (Some place)) → three ≡ changed_at two first_term (with_before side.Term (Some place))
     → IsAdded items three objects terms (set objects object (Some place)) (set terms term (Some place)) object term
 added items one two three objects terms object term place first_object first_term sound at_object at_term free updates len capacity second third =
@@ -316,11 +316,11 @@ added items one two three objects terms object term place first_object first_ter
           used-net items objects terms,
           used-net three (set objects object (Some place)) (set terms term (Some place)),
           len,
-          ap slab_len second ∙ changed-len one first_object (with_before side.Object (Some place)),
-          ap slab_len third ∙ changed-len two first_term (with_before side.Term (Some place)),
+          ap taken_count second ∙ changed-len one first_object (with_before side.Object (Some place)),
+          ap taken_count third ∙ changed-len two first_term (with_before side.Term (Some place)),
         );
         size = record {
-          capacity = ap (λ (t : Slab Posting). t.capacity) third ∙ changed-capacity two first_term (with_before side.Term (Some place)) ∙ ap (λ (t : Slab Posting). t.capacity) second ∙ changed-capacity one first_object (with_before side.Object (Some place)) ∙ capacity;
+          capacity = ap (λ (t : Places). t.capacity) third ∙ changed-capacity two first_term (with_before side.Term (Some place)) ∙ ap (λ (t : Places). t.capacity) second ∙ changed-capacity one first_object (with_before side.Object (Some place)) ∙ capacity;
           objects = length-set objects object (Some place);
           terms = length-set terms term (Some place);
         };
@@ -332,7 +332,7 @@ added items one two three objects terms object term place first_object first_ter
 pub linked_pads_to : (m : ℕ → Option Link) (owner : ℕ → Option ℕ) (heads more : List (Option ℕ)) → Pads heads more → IsLinked m owner heads → IsLinked m owner more
 linked_pads_to m owner heads more pads linked = subst (λ z. IsLinked m owner z) (sym pads.1) (linked_pads m owner heads pads.0 linked)
 
-pub sound_pads : (items : Slab Posting) (objects more_objects terms more_terms : List (Option ℕ)) → Pads objects more_objects → Pads terms more_terms → IsSound items objects terms → IsSound items more_objects more_terms
+pub sound_pads : (items : Places) (objects more_objects terms more_terms : List (Option ℕ)) → Pads objects more_objects → Pads terms more_terms → IsSound items objects terms → IsSound items more_objects more_terms
 sound_pads items objects more_objects terms more_terms one two sound = record {
   of_objects = linked_pads_to (links side.Object items) (owners side.Object (pairs items)) objects more_objects one sound.of_objects;
   of_terms = linked_pads_to (links side.Term items) (owners side.Term (pairs items)) terms more_terms two sound.of_terms;
@@ -341,5 +341,5 @@ sound_pads items objects more_objects terms more_terms one two sound = record {
 pub no_pads : (heads : List (Option ℕ)) → Pads heads heads
 no_pads heads = (0, sym (append-nil heads))
 
-pub sound_reserves : (items roomy : Slab Posting) (objects terms : List (Option ℕ)) → roomy ≡ record items { capacity = roomy.capacity } → IsSound items objects terms → IsSound roomy objects terms
+pub sound_reserves : (items roomy : Places) (objects terms : List (Option ℕ)) → roomy ≡ record items { capacity = roomy.capacity } → IsSound items objects terms → IsSound roomy objects terms
 sound_reserves items roomy objects terms same sound = subst (λ z. IsSound z objects terms) (sym same) (record { of_objects = sound.of_objects; of_terms = sound.of_terms })

@@ -3,7 +3,7 @@ use Rattle.std.proofs.Common.{◌≡◌, ◌∙◌, ◌↔◌, ◌<◌, ◌++◌
 use Rattle.std.proofs.lemmas.Bool.{cases_lt, false≢true}
 use Rattle.std.proofs.lemmas.List.{append-nil, append_assoc, get_or_past, length-append}
 use Rattle.std.proofs.lemmas.Option.{slice_get-get_or}
-use Rattle.slab.specs.Slab.{Slab, get}
+use Rattle.search_index.specs.Places.{Places, get}
 use Rattle.ordered_keys.specs.Numbers.{Among}
 use Rattle.search_index.specs.Chains.{IsLinked, IsPath}
 use Rattle.search_index.specs.Net.{IsOf, Net, held, links, net_of, owners, pairs}
@@ -16,13 +16,13 @@ use Rattle.search_index.proofs.ChainLemmas.{path}
 use Rattle.search_index.proofs.WalkLemmas.{owned, owner_held, path_length}
 
 -- the places behind it are gathered, and the others of the object's chain lie ahead
-pub record Gathers (items : Slab Posting) (object : ℕ) (first : Option ℕ) (found : List ℕ) (at : Option ℕ) : Type 0 where
+pub record Gathers (items : Places) (object : ℕ) (first : Option ℕ) (found : List ℕ) (at : Option ℕ) : Type 0 where
   pub rest : List ℕ
   pub whole : IsPath (links side.Object items) first (found ++ rest)
   pub left : IsPath (links side.Object items) at rest
   pub members : (q : ℕ) → Among (found ++ rest) q ↔ (owners side.Object (pairs items) q ≡ Some object)
 
-pub gathers_first : (items : Slab Posting) (heads : List (Option ℕ)) (object : ℕ) (first : Option ℕ) → IsLinked (links side.Object items) (owners side.Object (pairs items)) heads → first ≡ get_or heads object None → Gathers items object first [] first
+pub gathers_first : (items : Places) (heads : List (Option ℕ)) (object : ℕ) (first : Option ℕ) → IsLinked (links side.Object items) (owners side.Object (pairs items)) heads → first ≡ get_or heads object None → Gathers items object first [] first
 gathers_first items heads object first linked e = elim (cases_lt object (length heads)) [
   | inl within ↦
       let at = slice_get-get_or heads object None within ∙ ap Some (sym e) in
@@ -35,13 +35,13 @@ gathers_first items heads object first linked e = elim (cases_lt object (length 
 ]
 
 -- one place more
-pub record GathersMore (items : Slab Posting) (object : ℕ) (first : Option ℕ) (found : List ℕ) (place : ℕ) : Type 0 where
+pub record GathersMore (items : Places) (object : ℕ) (first : Option ℕ) (found : List ℕ) (place : ℕ) : Type 0 where
   pub posting : Posting
   pub there : get items place ≡ Some posting
   pub after : Gathers items object first (found ++ place ∷ []) posting.of_object.next
   pub within : length found < length items.slots
 
-pub gathers_more : (items : Slab Posting) (object : ℕ) (first : Option ℕ) (found : List ℕ) (at : Option ℕ) (place : ℕ) → Gathers items object first found at → at ≡ Some place → GathersMore items object first found place
+pub gathers_more : (items : Places) (object : ℕ) (first : Option ℕ) (found : List ℕ) (at : Option ℕ) (place : ℕ) → Gathers items object first found at → at ≡ Some place → GathersMore items object first found place
 gathers_more items object first found at place g e = more g.rest g.whole g.left g.members
   where
     more : (rest : List ℕ) → IsPath (links side.Object items) first (found ++ rest) → IsPath (links side.Object items) at rest → ((q : ℕ) → Among (found ++ rest) q ↔ (owners side.Object (pairs items) q ≡ Some object)) → GathersMore items object first found place
@@ -70,7 +70,7 @@ gathers_more items object first found at place g e = more g.rest g.whole g.left 
         ]
 
 -- a place of the object's chain has a posting of it
-of_object : (items : Slab Posting) (objects terms : List (Option ℕ)) (object q : ℕ) → (owners side.Object (pairs items) q ≡ Some object) ↔ IsOf (net_of items objects terms) object q
+of_object : (items : Places) (objects terms : List (Option ℕ)) (object q : ℕ) → (owners side.Object (pairs items) q ≡ Some object) ↔ IsOf (net_of items objects terms) object q
 of_object items objects terms object q = (
   λ mine. elim (cases_option (pairs items q)) [
     | inl gone ↦ let no : owners side.Object (pairs items) q ≡ None = ap (option_map (owner_in side.Object)) gone in absurd (cc)
@@ -82,7 +82,7 @@ of_object items objects terms object q = (
   λ is. owner_held side.Object items objects terms q object is.0 is.1,
 )
 
-pub gathers_all : (items : Slab Posting) (objects terms : List (Option ℕ)) (object : ℕ) (first : Option ℕ) (found : List ℕ) (at : Option ℕ) → Gathers items object first found at → at ≡ None → (q : ℕ) → Among found q ↔ IsOf (net_of items objects terms) object q
+pub gathers_all : (items : Places) (objects terms : List (Option ℕ)) (object : ℕ) (first : Option ℕ) (found : List ℕ) (at : Option ℕ) → Gathers items object first found at → at ≡ None → (q : ℕ) → Among found q ↔ IsOf (net_of items objects terms) object q
 gathers_all items objects terms object first found at g e q = all g.rest g.left g.members
   where
     all : (rest : List ℕ) → IsPath (links side.Object items) at rest → ((p : ℕ) → Among (found ++ rest) p ↔ (owners side.Object (pairs items) p ≡ Some object)) → Among found q ↔ IsOf (net_of items objects terms) object q
@@ -93,7 +93,7 @@ gathers_all items objects terms object first found at g e q = all g.rest g.left 
         (λ a. both.0 ((mine q).0 a), λ is. (mine q).1 (both.1 is))
 
 -- where a posting is told, one stands
-pub place_there : (items : Slab Posting) (objects terms : List (Option ℕ)) (q : ℕ) → IsSome (held (net_of items objects terms) q) ↔ IsSome (get items q)
+pub place_there : (items : Places) (objects terms : List (Option ℕ)) (q : ℕ) → IsSome (held (net_of items objects terms) q) ↔ IsSome (get items q)
 place_there items objects terms q = (
   λ told. elim (cases_option (get items q)) [
     | inl gone ↦ let no : is_some (held (net_of items objects terms) q) ≡ false = ap is_some (held-net items objects terms q ∙ ap (option_map pair_of) gone) in absurd (false≢true (sym no ∙ told))

@@ -5,7 +5,7 @@ use Rattle.std.proofs.lemmas.Bool.{cases_Bool, cases_lt, false≢true}
 use Rattle.std.proofs.lemmas.Option.{slice_get-get_or}
 use Rattle.std.proofs.lemmas.List.{append_assoc, get_or_past, length-append}
 use Rattle.std.proofs.lemmas.Map.Steps.{length-le_from_distinct_below}
-use Rattle.slab.specs.Slab.{Slab, get}
+use Rattle.search_index.specs.Places.{Places, get}
 use Rattle.ordered_keys.specs.Numbers.{Among}
 use Rattle.search_index.specs.Chains.{IsLinked, IsPath}
 use Rattle.search_index.specs.Posting.{link_of, other_side, owner_in, owner_of, pair_of}
@@ -43,7 +43,7 @@ among (y ∷ ys) q h = elim (cases_Bool (eqb q y)) [
 pub path_length : (m : ℕ → Option Link) (first : Option ℕ) (ps : List ℕ) (n : ℕ) → IsPath m first ps → ((q : ℕ) → Among ps q → q < n) → length ps ≤ n
 path_length m first ps n h below = length-le_from_distinct_below ps n (distinct m first ps h) (λ q e. below q (among ps q e))
 
-pub owned : (s : Side) (items : Slab Posting) (q h : ℕ) → owners s (pairs items) q ≡ Some h → q < length items.slots
+pub owned : (s : Side) (items : Places) (q h : ℕ) → owners s (pairs items) q ≡ Some h → q < length items.slots
 owned s items q h e = elim (cases_lt q (length items.slots)) [
   | inl within ↦ within
   | inr past ↦
@@ -53,7 +53,7 @@ owned s items q h e = elim (cases_lt q (length items.slots)) [
 ]
 
 -- a walk has found what the places behind it have at their other side, and the others of the chain lie ahead
-pub record IsWalk (s : Side) (items : Slab Posting) (owner : ℕ) (first : Option ℕ) (found : List ℕ) (at : Option ℕ) : Type 0 where
+pub record IsWalk (s : Side) (items : Places) (owner : ℕ) (first : Option ℕ) (found : List ℕ) (at : Option ℕ) : Type 0 where
   pub done : List ℕ
   pub rest : List ℕ
   pub whole : IsPath (links s items) first (done ++ rest)
@@ -62,7 +62,7 @@ pub record IsWalk (s : Side) (items : Slab Posting) (owner : ℕ) (first : Optio
   pub seen : (o : ℕ) → Among found o ↔ ((q : ℕ) × Among done q × (owners (other_side s) (pairs items) q ≡ Some o))
   pub count : length found ≡ length done
 
-pub walk_begins : (s : Side) (items : Slab Posting) (heads : List (Option ℕ)) (owner : ℕ) (first : Option ℕ) → IsLinked (links s items) (owners s (pairs items)) heads → first ≡ get_or heads owner None → IsWalk s items owner first [] first
+pub walk_begins : (s : Side) (items : Places) (heads : List (Option ℕ)) (owner : ℕ) (first : Option ℕ) → IsLinked (links s items) (owners s (pairs items)) heads → first ≡ get_or heads owner None → IsWalk s items owner first [] first
 walk_begins s items heads owner first linked e = elim (cases_lt owner (length heads)) [
   | inl within ↦
       let at = slice_get-get_or heads owner None within ∙ ap Some (sym e) in
@@ -74,11 +74,11 @@ walk_begins s items heads owner first linked e = elim (cases_lt owner (length he
       record { done = []; rest = []; whole = none; left = none; members = λ q. (λ a. absurd a, λ mine. let within = linked.headed q owner mine in absurd (omega arith)); seen = λ o. (λ a. absurd a, λ t. absurd t.1); count = refl }
 ]
 
-pub record Steps (s : Side) (items : Slab Posting) (owner : ℕ) (first : Option ℕ) (found : List ℕ) (place : ℕ) (x : Posting) : Type 0 where
+pub record Steps (s : Side) (items : Places) (owner : ℕ) (first : Option ℕ) (found : List ℕ) (place : ℕ) (x : Posting) : Type 0 where
   pub after : IsWalk s items owner first (found ++ owner_in (other_side s) (pair_of x) ∷ []) (link_of s x).next
   pub within : length found < length items.slots
 
-pub walk_there : (s : Side) (items : Slab Posting) (owner : ℕ) (first : Option ℕ) (found : List ℕ) (at : Option ℕ) (place : ℕ) → IsWalk s items owner first found at → at ≡ Some place → (x : Posting) × (get items place ≡ Some x)
+pub walk_there : (s : Side) (items : Places) (owner : ℕ) (first : Option ℕ) (found : List ℕ) (at : Option ℕ) (place : ℕ) → IsWalk s items owner first found at → at ≡ Some place → (x : Posting) × (get items place ≡ Some x)
 walk_there s items owner first found at place walk e = there walk.rest walk.left
   where
     there : (rest : List ℕ) → IsPath (links s items) at rest → (x : Posting) × (get items place ≡ Some x)
@@ -90,7 +90,7 @@ walk_there s items owner first found at place walk e = there walk.rest walk.left
           | inr (x, there_is) ↦ (x, ap (get items) (sym same) ∙ there_is)
         ]
 
-pub walk_steps : (s : Side) (items : Slab Posting) (owner : ℕ) (first : Option ℕ) (found : List ℕ) (at : Option ℕ) (place : ℕ) (x : Posting) → IsWalk s items owner first found at → at ≡ Some place → get items place ≡ Some x → Steps s items owner first found place x
+pub walk_steps : (s : Side) (items : Places) (owner : ℕ) (first : Option ℕ) (found : List ℕ) (at : Option ℕ) (place : ℕ) (x : Posting) → IsWalk s items owner first found at → at ≡ Some place → get items place ≡ Some x → Steps s items owner first found place x
 walk_steps s items owner first found at place x walk e is_x = steps walk.rest walk.whole walk.left walk.members
   where
     done : List ℕ
@@ -133,7 +133,7 @@ walk_steps s items owner first found at place x walk e is_x = steps walk.rest wa
           within = omega (arith, long, sizes, walk.count);
         }
 
-pub walk_ends : (s : Side) (items : Slab Posting) (owner : ℕ) (first : Option ℕ) (found : List ℕ) (at : Option ℕ) → IsWalk s items owner first found at → at ≡ None → (other : ℕ) → Among found other ↔ Leads s items owner other
+pub walk_ends : (s : Side) (items : Places) (owner : ℕ) (first : Option ℕ) (found : List ℕ) (at : Option ℕ) → IsWalk s items owner first found at → at ≡ None → (other : ℕ) → Among found other ↔ Leads s items owner other
 walk_ends s items owner first found at walk e other = ends walk.rest walk.left walk.members
   where
     ends : (rest : List ℕ) → IsPath (links s items) at rest → ((q : ℕ) → Among (walk.done ++ rest) q ↔ (owners s (pairs items) q ≡ Some owner)) → Among found other ↔ Leads s items owner other
@@ -148,7 +148,7 @@ pub owner_same : (s : Side) (x : Posting) → owner_of s x ≡ owner_in s (pair_
 owner_same side.Term x = refl
 owner_same side.Object x = refl
 
-has_pair : (items : Slab Posting) (objects terms : List (Option ℕ)) (q object term : ℕ) → owners side.Term (pairs items) q ≡ Some term → owners side.Object (pairs items) q ≡ Some object → held (net_of items objects terms) q ≡ Some (object, term)
+has_pair : (items : Places) (objects terms : List (Option ℕ)) (q object term : ℕ) → owners side.Term (pairs items) q ≡ Some term → owners side.Object (pairs items) q ≡ Some object → held (net_of items objects terms) q ≡ Some (object, term)
 has_pair items objects terms q object term t o = elim (cases_option (pairs items q)) [
   | inl none ↦ let no : owners side.Term (pairs items) q ≡ None = ap (option_map (owner_in side.Term)) none in absurd (cc)
   | inr (pair, is) ↦
@@ -159,18 +159,18 @@ has_pair items objects terms q object term t o = elim (cases_option (pairs items
       held-net items objects terms q ∙ is ∙ ap Some (λ i. (f i, e i))
 ]
 
-pub owner_held : (s : Side) (items : Slab Posting) (objects terms : List (Option ℕ)) (q object term : ℕ) → held (net_of items objects terms) q ≡ Some (object, term) → owners s (pairs items) q ≡ Some (owner_in s (object, term))
+pub owner_held : (s : Side) (items : Places) (objects terms : List (Option ℕ)) (q object term : ℕ) → held (net_of items objects terms) q ≡ Some (object, term) → owners s (pairs items) q ≡ Some (owner_in s (object, term))
 owner_held s items objects terms q object term e = ap (option_map (owner_in s)) (sym (held-net items objects terms q) ∙ e)
 
 -- a term leads to the objects that have it
-pub to_objects : (items : Slab Posting) (objects terms : List (Option ℕ)) (term object : ℕ) → Leads side.Term items term object ↔ Has (net_of items objects terms) object term
+pub to_objects : (items : Places) (objects terms : List (Option ℕ)) (term object : ℕ) → Leads side.Term items term object ↔ Has (net_of items objects terms) object term
 to_objects items objects terms term object = (
   λ h. (h.0, has_pair items objects terms h.0 object term h.1 h.2),
   λ h. (h.0, owner_held side.Term items objects terms h.0 object term h.1, owner_held side.Object items objects terms h.0 object term h.1),
 )
 
 -- and an object to the terms that it has
-pub to_terms : (items : Slab Posting) (objects terms : List (Option ℕ)) (object term : ℕ) → Leads side.Object items object term ↔ Has (net_of items objects terms) object term
+pub to_terms : (items : Places) (objects terms : List (Option ℕ)) (object term : ℕ) → Leads side.Object items object term ↔ Has (net_of items objects terms) object term
 to_terms items objects terms object term = (
   λ h. (h.0, has_pair items objects terms h.0 object term h.2 h.1),
   λ h. (h.0, owner_held side.Object items objects terms h.0 object term h.1, owner_held side.Term items objects terms h.0 object term h.1),
@@ -186,11 +186,11 @@ either_way one other = (λ a. other.0 (one.0 a), λ c. one.1 (other.1 c))
 
 -- ---- heads
 
-pub no_posting : (items : Slab Posting) (objects terms : List (Option ℕ)) (object : ℕ) → IsSound items objects terms → get_or objects object None ≡ None → HasNone (net_of items objects terms) object
+pub no_posting : (items : Places) (objects terms : List (Option ℕ)) (object : ℕ) → IsSound items objects terms → get_or objects object None ≡ None → HasNone (net_of items objects terms) object
 no_posting items objects terms object sound e term has =
     unheaded (links side.Object items) (owners side.Object (pairs items)) objects object sound.of_objects e has.0 (owner_held side.Object items objects terms has.0 object term has.1)
 
-pub unused_is : (items : Slab Posting) (objects terms : List (Option ℕ)) (term : ℕ) → IsSound items objects terms → (get_or terms term None ≡ None) ↔ IsUnused (net_of items objects terms) term
+pub unused_is : (items : Places) (objects terms : List (Option ℕ)) (term : ℕ) → IsSound items objects terms → (get_or terms term None ≡ None) ↔ IsUnused (net_of items objects terms) term
 unused_is items objects terms term sound = (
   λ e object has. unheaded (links side.Term items) (owners side.Term (pairs items)) terms term sound.of_terms e has.0 (owner_held side.Term items objects terms has.0 object term has.1),
   λ unused. elim (cases_option (get_or terms term None)) [
@@ -208,7 +208,7 @@ unused_is items objects terms term sound = (
 )
 
 -- the first place of an object's chain has a posting of that object
-pub first_there : (items : Slab Posting) (objects terms : List (Option ℕ)) (object place : ℕ) → IsSound items objects terms → get_or objects object None ≡ Some place → (x : Posting) × (get items place ≡ Some x) × (x.object ≡ object)
+pub first_there : (items : Places) (objects terms : List (Option ℕ)) (object place : ℕ) → IsSound items objects terms → get_or objects object None ≡ Some place → (x : Posting) × (get items place ≡ Some x) × (x.object ≡ object)
 first_there items objects terms object place sound e =
     let mine = headed_by (links side.Object items) (owners side.Object (pairs items)) objects object place sound.of_objects e in
     elim (cases_option (get items place)) [

@@ -1,4 +1,6 @@
+pub mod Place
 pub mod Posting
+pub mod Places
 pub mod Chains
 pub mod Net
 pub mod Scope

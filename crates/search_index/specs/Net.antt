@@ -1,7 +1,8 @@
 -- Postings in their places, for the private clauses.
 use Rattle.std.specs.Prelude.{◌≡◌, ◌≢◌, ℕ, ◌+◌, ◌≤◌, ◌++◌, replicate, List, length, map, Option, Some, None, is_some, option_map, count_by, slice_index_or, slice_set, refl}
 use Rattle.std.specs.Coded.{Coded, code_by, coded×, coded_ℕ, coded_list, coded_option}
-use Rattle.slab.specs.Slab.{Slab, get, with_value, slab_len}
+use Rattle.search_index.specs.Place.{no_number}
+use Rattle.search_index.specs.Places.{Places, get, with_value, taken_count}
 use Rattle.search_index.specs.Posting.{link_of, owner_in, pair_of, other_side}
 use Rattle.search_index.specs.Chains.{IsLinked, IsWithout}
 use Rattle.search_index.specs.declared.posting.Link.{Link}
@@ -10,11 +11,11 @@ use Rattle.search_index.specs.declared.posting.Side.TheVariants as side
 use Rattle.search_index.specs.declared.posting.Posting.{Posting}
 
 -- the links of one kind
-abbrev pub links : Side → Slab Posting → ℕ → Option Link
+abbrev pub links : Side → Places → ℕ → Option Link
 links s items p = option_map (link_of s) (get items p)
 
 -- the object and the term of the posting in a place
-abbrev pub pairs : Slab Posting → ℕ → Option (ℕ × ℕ)
+abbrev pub pairs : Places → ℕ → Option (ℕ × ℕ)
 pairs items p = option_map pair_of (get items p)
 
 -- the owner of a place
@@ -22,7 +23,7 @@ abbrev pub owners : Side → (ℕ → Option (ℕ × ℕ)) → ℕ → Option �
 owners s held p = option_map (owner_in s) (held p)
 
 -- the postings, with another in a place where one stands
-abbrev pub changed_at : Slab Posting → Option ℕ → (Posting → Posting) → Slab Posting
+abbrev pub changed_at : Places → Option ℕ → (Posting → Posting) → Places
 changed_at items None f = items
 changed_at items (Some p) f = elim (get items p) [ None ↦ items | Some x ↦ with_value items p (f x) ]
 
@@ -32,11 +33,11 @@ heads_without heads h None next = slice_set heads h next
 heads_without heads h (Some b) next = heads
 
 -- a place was taken out of a chain
-pub record Unlinks (s : Side) (old new : Slab Posting) (heads less : List (Option ℕ)) (place : ℕ) : Type 0 where
+pub record Unlinks (s : Side) (old new : Places) (heads less : List (Option ℕ)) (place : ℕ) : Type 0 where
   pub linked : (owner : ℕ → Option ℕ) → IsWithout (owners s (pairs old)) owner place → IsLinked (links s new) owner less
   pub pairs : (q : ℕ) → pairs new q ≡ pairs old q
   pub other : (q : ℕ) → links (other_side s) new q ≡ links (other_side s) old q
-  pub len : slab_len new ≡ slab_len old
+  pub len : taken_count new ≡ taken_count old
   pub capacity : new.capacity ≡ old.capacity
   pub count : length less ≡ length heads
 
@@ -61,13 +62,19 @@ abbrev pub used : Net → ℕ
 used net = count_by is_some net.slots
 
 -- what contracts see
-abbrev pub net_of : Slab Posting → List (Option ℕ) → List (Option ℕ) → Net
+abbrev pub net_of : Places → List (Option ℕ) → List (Option ℕ) → Net
 net_of items objects terms = record { slots = map (option_map pair_of) items.slots; capacity = items.capacity; objects = length objects; terms = length terms }
 
 -- both kinds of chains lead to just the places of their owners
-pub record IsSound (items : Slab Posting) (objects terms : List (Option ℕ)) : Type 0 where
+pub record IsSound (items : Places) (objects terms : List (Option ℕ)) : Type 0 where
   pub of_objects : IsLinked (links side.Object items) (owners side.Object (pairs items)) objects
   pub of_terms : IsLinked (links side.Term items) (owners side.Term (pairs items)) terms
+
+-- besides, each object and each term has a number
+pub record IsKept (items : Places) (objects terms : List (Option ℕ)) : Type 0 where
+  pub sound : IsSound items objects terms
+  pub objects_numbered : length objects ≤ no_number
+  pub terms_numbered : length terms ≤ no_number
 
 -- one place has something else in it
 pub record Changes (old new : ℕ → Option (ℕ × ℕ)) (place : ℕ) (now : Option (ℕ × ℕ)) : Type 0 where
@@ -107,7 +114,7 @@ abbrev pub Has : Net → ℕ → ℕ → Type 0
 Has net object term = (q : ℕ) × (held net q ≡ Some (object, term))
 
 -- some posting of this owner has that at its other side
-abbrev pub Leads : Side → Slab Posting → ℕ → ℕ → Type 0
+abbrev pub Leads : Side → Places → ℕ → ℕ → Type 0
 Leads s items owner other = (q : ℕ) × (owners s (pairs items) q ≡ Some owner) × (owners (other_side s) (pairs items) q ≡ Some other)
 
 -- a posting of the object is in the place

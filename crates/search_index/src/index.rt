@@ -75,7 +75,8 @@ impl Index {
     }
 
     /// Makes room for so many more objects, postings and terms. The objects and their pairs are as they were, and the room
-    /// isn't less, also where there is no memory.
+    /// isn't less, also where there is no memory, as there is none (`NoMemory`) where objects, postings or terms would be
+    /// 2^32 - 1 or more.
     pub fn reserve(&mut self, objects: usize, postings: usize, terms: usize) -> Result<(), NoMemory>
         ensures same { SameObjects self.old self.new }
         ensures ok { OnOk result (HasRoom self.new objects postings terms) }

@@ -8,6 +8,7 @@ mod found;
 mod index;
 mod key;
 mod names;
+mod places;
 mod posting;
 mod postings;
 mod scope;

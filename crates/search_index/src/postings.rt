@@ -1,14 +1,15 @@
 //! Postings in one arena: each stands in the chain of its object and in that of its term.
 ghost use Rattle.std.specs.Prelude.{◌≡◌, ◌+◌, ◌<◌, ◌≤◌, ◌↔◌, ℕ, IfOk, IsSome, IsTrue, OnOk, MatchOption, None, [], length, slice_index_or};
-ghost use Rattle.slab.specs.Slab.{ContainsKey};
+ghost use Rattle.search_index.specs.Place.{no_number};
+ghost use Rattle.search_index.specs.Places.{IsTaken};
 ghost use Rattle.ordered_keys.specs.Numbers.{Among};
 ghost use Rattle.search_index.specs.Chains.{IsLinked};
 ghost use Rattle.search_index.specs.Net.{Adds, Has, HasNone, IsOf, IsUnused, IsWide, Leads, Pads, Takes, TakesAt, Unlinks, Widens, changed_at, heads_without, held, links, owners, pairs, used};
 ghost use Rattle.search_index.specs.Posting.{with_before, with_next};
 
-use crate::posting::{Link, Posting, Side};
+use crate::places::Places;
+use crate::posting::{Link, NONE, Place, Posting, Side};
 use doc_tree::NoMemory;
-use slab::Slab;
 use std::alloc::Global;
 use std::marker::Model;
 
@@ -16,11 +17,11 @@ use std::marker::Model;
 /// place, and no link.
 #[derive(Drop)]
 pub(crate) struct Postings {
-    items: Slab<Posting>,
+    items: Places,
     // The first place of each object's chain.
-    objects: Vec<Option<usize>>,
+    objects: Vec<Place>,
     // The first place of each term's chain.
-    terms: Vec<Option<usize>>,
+    terms: Vec<Place>,
 }
 
 impl Model for Postings {
@@ -30,11 +31,11 @@ impl Model for Postings {
 
     ghost coded = { net_code };
 
-    ghost use Rattle.search_index.specs.Net.{IsSound, net_of};
+    ghost use Rattle.search_index.specs.Net.{IsKept, net_of};
 
     ghost view = { λ p. net_of p.items p.objects.items p.terms.items };
 
-    ghost invariant = { λ p. IsSound p.items p.objects.items p.terms.items };
+    ghost invariant = { λ p. IsKept p.items p.objects.items p.terms.items };
 }
 
 impl Postings {
@@ -43,13 +44,14 @@ impl Postings {
         ensures { result ≡ record { slots = []; capacity = 0; objects = 0; terms = 0 } }
     {
         Postings {
-            items: Slab::new(alloc),
+            items: Places::none(alloc),
             objects: Vec::new(alloc),
             terms: Vec::new(alloc),
         }
     }
 
-    /// Makes room for so many more postings, and for the chains of so many objects and terms.
+    /// Makes room for so many more postings, and for the chains of so many objects and terms. There is none (`NoMemory`)
+    /// where postings, objects or terms would be 2^32 - 1 or more.
     pub(crate) fn reserve(
         &mut self,
         postings: usize,
@@ -74,22 +76,23 @@ impl Postings {
     {
         let of_object = self.objects[object];
         let of_term = self.terms[term];
-        let place = self.items.insert_reserved(Posting {
-            object,
-            term,
+        let place = self.items.put(Posting {
+            object: object as u32,
+            term: term as u32,
             of_object: Link {
-                before: None,
+                before: Place::none(),
                 next: of_object,
             },
             of_term: Link {
-                before: None,
+                before: Place::none(),
                 next: of_term,
             },
         });
-        set_before(&mut self.items, Side::Object, of_object, Some(place));
-        set_before(&mut self.items, Side::Term, of_term, Some(place));
-        self.objects[object] = Some(place);
-        self.terms[term] = Some(place);
+        let here = Place::at(place);
+        set_before(&mut self.items, Side::Object, of_object, here);
+        set_before(&mut self.items, Side::Term, of_term, here);
+        self.objects[object] = here;
+        self.terms[term] = here;
     }
 
     /// Takes a posting of an object out, and gives its term, or nothing where the object has none.
@@ -107,11 +110,11 @@ impl Postings {
         requires { IsSome (held self.old place) }
         ensures { TakesAt self.old self.new place result }
     {
-        let posting = self.items[place];
+        let term = self.items.posting(place).term as usize;
         unlink(&mut self.items, &mut self.terms, Side::Term, place);
         unlink(&mut self.items, &mut self.objects, Side::Object, place);
         self.items.remove(place);
-        posting.term
+        term
     }
 
     /// Whether a posting is in a place.
@@ -129,7 +132,7 @@ impl Postings {
         let mut at = first_of(&self.objects, object);
         while let Some(place) = at {
             found.push(place)?;
-            at = self.items[place].of_object.next;
+            at = self.items.posting(place).of_object.next.get();
         }
         Ok(found)
     }
@@ -199,7 +202,7 @@ impl Postings {
     fn behind(&self, place: Option<usize>) -> Option<usize> {
         match place {
             Some(place) => match self.items.get(place) {
-                Some(posting) => posting.of_term.next,
+                Some(posting) => posting.of_term.next.get(),
                 None => None,
             },
             None => None,
@@ -220,8 +223,8 @@ fn ended(chains: &[Option<usize>]) -> Option<usize> {
 /// What stands at the other side of each posting of an owner, in the order of its chain.
 fn others_of(
     alloc: Global,
-    items: &Slab<Posting>,
-    heads: &[Option<usize>],
+    items: &Places,
+    heads: &[Place],
     side: Side,
     owner: usize,
 ) -> Result<Vec<usize>, NoMemory>
@@ -231,80 +234,82 @@ fn others_of(
     let mut found = Vec::new(alloc);
     let mut at = first_of(heads, owner);
     while let Some(place) = at {
-        let posting = items[place];
+        let posting = items.posting(place);
         found.push(posting.owner(side.other()))?;
-        at = posting.link(side).next;
+        at = posting.link(side).next.get();
     }
     Ok(found)
 }
 
-/// Lets so many owners have a chain.
-fn pad(heads: &mut Vec<Option<usize>>, size: usize) -> Result<(), NoMemory>
+/// Lets so many owners have a chain, where each has a number.
+fn pad(heads: &mut Vec<Place>, size: usize) -> Result<(), NoMemory>
     ensures pads { Pads heads.old.items heads.new.items }
     ensures ok { OnOk result (size ≤ length heads.new.items) }
+    ensures numbered { length heads.old.items ≤ no_number → length heads.new.items ≤ no_number }
 {
+    if size >= NONE as usize {
+        return Err(NoMemory);
+    }
     if heads.len() < size {
-        heads.resize(size, None)?;
+        heads.resize(size, Place::none())?;
     }
     Ok(())
 }
 
 /// The first place of a chain, if it has one.
-fn first_of(heads: &[Option<usize>], owner: usize) -> Option<usize>
+fn first_of(heads: &[Place], owner: usize) -> Option<usize>
     ensures { result ≡ slice_index_or heads.now owner None }
 {
     match heads.get(owner) {
-        Some(first) => *first,
+        Some(first) => first.get(),
         None => None,
     }
 }
 
 /// Puts a place behind another, if there is one.
-fn set_next(items: &mut Slab<Posting>, side: Side, place: Option<usize>, next: Option<usize>)
+fn set_next(items: &mut Places, side: Side, place: Place, next: Place)
     ensures { items.new ≡ changed_at items.old place (with_next side next) }
 {
-    if let Some(place) = place {
-        if let Some(posting) = items.get_mut(place) {
-            *posting = posting.with_next(side, next);
+    if let Some(place) = place.get() {
+        if let Some(posting) = items.get(place) {
+            let changed = posting.with_next(side, next);
+            items.write(place, changed);
         }
     }
 }
 
 /// Puts a place before another, if there is one.
-fn set_before(items: &mut Slab<Posting>, side: Side, place: Option<usize>, before: Option<usize>)
+fn set_before(items: &mut Places, side: Side, place: Place, before: Place)
     ensures { items.new ≡ changed_at items.old place (with_before side before) }
 {
-    if let Some(place) = place {
-        if let Some(posting) = items.get_mut(place) {
-            *posting = posting.with_before(side, before);
+    if let Some(place) = place.get() {
+        if let Some(posting) = items.get(place) {
+            let changed = posting.with_before(side, before);
+            items.write(place, changed);
         }
     }
 }
 
 /// Lets a chain begin with what stood behind its first place, where it is that which goes.
-fn set_head(
-    heads: &mut Vec<Option<usize>>,
-    owner: usize,
-    before: Option<usize>,
-    next: Option<usize>,
-)
+fn set_head(heads: &mut Vec<Place>, owner: usize, before: Place, next: Place)
     requires { owner < length heads.old.items }
     ensures { heads.new.items ≡ heads_without heads.old.items owner before next }
 {
-    if before.is_none() {
+    if before.get().is_none() {
         heads[owner] = next;
     }
 }
 
 /// Takes a place out of one of its chains.
-fn unlink(items: &mut Slab<Posting>, heads: &mut Vec<Option<usize>>, side: Side, place: usize)
-    requires there { ContainsKey items.old place }
+fn unlink(items: &mut Places, heads: &mut Vec<Place>, side: Side, place: usize)
+    requires there { IsTaken items.old place }
     requires linked { IsLinked (links side items.old) (owners side (pairs items.old)) heads.old.items }
     ensures { Unlinks side items.old items.new heads.old.items heads.new.items place }
 {
-    let posting = items[place];
+    let posting = items.posting(place);
     let link = posting.link(side);
+    let owner = posting.owner(side);
     set_next(items, side, link.before, link.next);
     set_before(items, side, link.next, link.before);
-    set_head(heads, posting.owner(side), link.before, link.next);
+    set_head(heads, owner, link.before, link.next);
 }

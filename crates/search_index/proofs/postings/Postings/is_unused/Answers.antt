@@ -13,7 +13,7 @@ tells (Some x) false e = (λ h. absurd (false≢true h), λ h. absurd (cc))
 
 pub returns : goal.returns
 returns c =
-    let is = unused_is c.self.inside.items c.self.inside.objects.items c.self.inside.terms.items c.args.term c.self.invariant in
+    let is = unused_is c.self.inside.items c.self.inside.objects.items c.self.inside.terms.items c.args.term c.self.invariant.sound in
     let told = tells c.first_of.result c.is_none.result c.is_none.ensures in
     let read = ap (λ z. get_or z c.args.term None) (sym c.deref.ensures.value) ∙ sym c.first_of.ensures in
     subst (λ n. IsTrue c.is_none.result ↔ IsUnused n c.args.term) c.self.view_is

@@ -1,5 +1,5 @@
 -- The places of the object's postings are gathered.
-use Rattle.std.proofs.Common.{◌≡◌, ◌∙◌, ◌+◌, ◌↔◌, ◌∷◌, ◌++◌, [], List, None, ℕ, ap, arith, get_or, is_some, length, subst, sym}
+use Rattle.std.proofs.Common.{◌≡◌, ◌∙◌, ◌+◌, ◌↔◌, ◌∷◌, ◌++◌, [], List, None, Option, ℕ, ap, arith, get_or, is_some, length, subst, sym}
 use Rattle.std.proofs.lemmas.List.{length-append}
 use Rattle.ordered_keys.specs.Numbers.{Among}
 use Rattle.search_index.specs.Net.{IsOf}
@@ -10,10 +10,10 @@ use Rattle.search_index.proofs.postings.Postings.places_of.Goals as goal
 pub loop-at-init : goal.loop-at-init
 loop-at-init c =
     subst (λ z. Gathers c.self.inside.items c.args.object c.first_of-at.result z c.first_of-at.result) (sym c.new-found.ensures.items)
-    (gathers_first c.self.inside.items c.self.inside.objects.items c.args.object c.first_of-at.result c.self.invariant.of_objects (c.first_of-at.ensures ∙ ap (λ z. get_or z c.args.object None) c.deref.ensures.value))
+    (gathers_first c.self.inside.items c.self.inside.objects.items c.args.object c.first_of-at.result c.self.invariant.sound.of_objects (c.first_of-at.ensures ∙ ap (λ z. get_or z c.args.object None) c.deref.ensures.value))
 
-pub index-requires : goal.index-requires
-index-requires c = ap is_some (gathers_more c.self.inside.items c.args.object c.first_of-at.result c.loop-at.found.items c.loop-at.at c.in-Some.place c.loop-at.invariant c.in-Some.is).there
+pub posting-requires : goal.posting-requires
+posting-requires c = ap is_some (gathers_more c.self.inside.items c.args.object c.first_of-at.result c.loop-at.found.items c.loop-at.at c.in-Some.place c.loop-at.invariant c.in-Some.is).there
 
 pub loop-at-smaller : goal.loop-at-smaller
 loop-at-smaller c =
@@ -26,10 +26,10 @@ pub loop-at-preserved : goal.loop-at-preserved
 loop-at-preserved c =
     let more = gathers_more c.self.inside.items c.args.object c.first_of-at.result c.loop-at.found.items c.loop-at.at c.in-Some.place c.loop-at.invariant c.in-Some.is in
     let there = more.there in
-    let read = c.index.ensures in
-    let same : more.posting ≡ c.index.result.now = cc in
-    subst (λ (n : List ℕ). Gathers c.self.inside.items c.args.object c.first_of-at.result n c.index.result.now.of_object.next) (sym c.in_ok-push.ensures.items)
-    (subst (λ (x : Posting). Gathers c.self.inside.items c.args.object c.first_of-at.result (c.loop-at.found.items ++ c.in-Some.place ∷ []) x.of_object.next) same more.after)
+    let read = c.posting.ensures in
+    let same : more.posting ≡ c.posting.result.now = cc in
+    subst (λ (n : List ℕ). Gathers c.self.inside.items c.args.object c.first_of-at.result n c.get-at.result) (sym c.in_ok-push.ensures.items)
+    (subst (λ (w : Option ℕ). Gathers c.self.inside.items c.args.object c.first_of-at.result (c.loop-at.found.items ++ c.in-Some.place ∷ []) w) (sym c.get-at.ensures) (subst (λ (x : Posting). Gathers c.self.inside.items c.args.object c.first_of-at.result (c.loop-at.found.items ++ c.in-Some.place ∷ []) x.of_object.next) same more.after))
 
 pub returns : goal.returns
 returns c q =
