@@ -154,6 +154,14 @@ impl<S: Stands> TurnBook<S> {
         Some(Out { value })
     }
 
+    // Wakes who sleeps. Where no more tickets were drawn than calls are done that is nobody, and costs no call of the system:
+    // who draws one from here on reads this number, or a later one.
+    fn wake_others(&self, done: u64) {
+        if self.table.shared.peek(TICKETS) != done {
+            self.table.shared.wake_all(DONE);
+        }
+    }
+
     // Puts the value into the slot and lets the next one have its turn.
     fn give_value<M: Picks<S::Entry>>(
         &self,
@@ -170,8 +178,8 @@ impl<S: Stands> TurnBook<S> {
             None => {}
             Some(_) => unreachable!(),
         }
-        self.table.shared.fetch_add::<Advance<M>>(seat, DONE, 1);
-        self.table.shared.wake_all(DONE);
+        let done = self.table.shared.fetch_add::<Advance<M>>(seat, DONE, 1);
+        self.wake_others(done.wrapping_add(1));
     }
 
     /// Gives the value back, with one entry more, which the caller picks. It takes no memory and waits for nobody.
