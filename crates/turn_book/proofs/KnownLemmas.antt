@@ -1,5 +1,5 @@
 -- What the steps of a call do to a seat, as its caller knows it.
-use Rattle.std.proofs.Common.{◌≡◌, ◌+◌, ◌-◌, ◌<◌, List, [], ◌∷◌, ◌++◌, sym, ap, ◌∙◌, subst, inl, inr, arith, true, false, true≢false, Option, Some, None, IfSome}
+use Rattle.std.proofs.Common.{◌≡◌, ◌<◌, List, [], ◌∷◌, ◌++◌, sym, ap, ◌∙◌, subst, inl, inr, arith, true, false, true≢false, Option, Some, None, IfSome}
 use Rattle.atomic_table.specs.Seated.{TableId}
 use Rattle.turn_book.specs.declared.views.View.{View}
 use Rattle.turn_book.specs.declared.views.Stage.TheVariants.{Idle}

@@ -1,20 +1,20 @@
 -- What follows from the rule of a book, and one rebuild of it for every step that changes one view.
-use Rattle.std.proofs.Common.{◌≡◌, ◌≢◌, ◌⊎◌, ℕ, zero, suc, ◌+◌, ◌-◌, ◌<◌, ◌≤◌, List, [], ◌∷◌, ◌++◌, length, get_or, set, refl, sym, ap, ◌∙◌, subst, inl, inr, ⊎_elim, arith, true, false, true≢false, Option, Some, None, eqb}
+use Rattle.std.proofs.Common.{◌≡◌, ◌≢◌, ◌⊎◌, ℕ, zero, suc, ◌+◌, ◌<◌, ◌≤◌, List, [], ◌∷◌, ◌++◌, length, get_or, set, refl, sym, ap, ◌∙◌, subst, inl, inr, ⊎_elim, arith, true, false, true≢false, Option, Some, None, eqb}
 use Rattle.std.proofs.lemmas.Bool.Decides.{nat_tests}
 use mathlib.Core.Option.{some, none, some-injective, some-ne-none}
 use mathlib.Core.Logic.{dite}
 use native.Mathlib.Decide.{ℕ_discrete}
 use lib.ListN.{get_elem?}
 use lib.Seq.{set-get_or}
-use Rattle.atomic_table.specs.Table.{State, step, keeps, stepped}
+use Rattle.atomic_table.specs.Table.{State, keeps, stepped}
 use Rattle.atomic_table.proofs.Lists.{at_set, at_snoc}
 use Rattle.std.specs.Option.{unwrap_or}
 use Rattle.turn_book.specs.declared.views.View.{View}
 use Rattle.turn_book.specs.declared.views.Stage.{Stage}
 use Rattle.turn_book.specs.declared.views.Stage.TheVariants.{Empty, Filling, Idle, Out}
 use Rattle.turn_book.specs.Counts.{same, times, is_ticket, below}
-use Rattle.turn_book.specs.Views.{out, is_live, view, first_view}
-use Rattle.turn_book.specs.Rule.{Agrees, tickets, parts, outs, EachSeat, Turning, Kept}
+use Rattle.turn_book.specs.Views.{out, is_live, first_view}
+use Rattle.turn_book.specs.Rule.{Agrees, tickets, outs, EachSeat, Turning, Kept}
 use Rattle.turn_book.proofs.CountLemmas.{same_here, below_most, below_no, total_set, total_two, total_most, total_less}
 
 pub Idle≢Out : Idle ≢ Out

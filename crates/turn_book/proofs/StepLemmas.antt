@@ -1,5 +1,5 @@
 -- Each step keeps the rule of a book.
-use Rattle.std.proofs.Common.{◌≡◌, ◌≢◌, ◌⊎◌, ℕ, ◌+◌, ◌-◌, ◌<◌, ◌%◌, ◌^◌, List, [], ◌∷◌, ◌++◌, length, get_or, set, refl, sym, ap, ◌∙◌, subst, inl, inr, ⊎_elim, arith, true, true≢false, Bool, Option, Some, None, length-append, eqb, eq-eqb, ne_eqb, length-set}
+use Rattle.std.proofs.Common.{◌≡◌, ◌≢◌, ℕ, ◌+◌, ◌<◌, ◌%◌, ◌^◌, List, [], ◌∷◌, ◌++◌, length, get_or, set, refl, sym, ap, ◌∙◌, subst, inl, inr, ⊎_elim, arith, true, true≢false, Bool, Option, Some, None, length-append, eqb, eq-eqb, ne_eqb, length-set}
 use mathlib.Core.Option.{some, none}
 use mathlib.Core.Logic.{dite}
 use native.Mathlib.Decide.{ℕ_discrete}
@@ -13,7 +13,7 @@ use Rattle.std.proofs.Math.Nat.{mod-eq_of_lt}
 use Rattle.turn_book.specs.declared.views.View.{View}
 use Rattle.turn_book.specs.declared.views.Stage.TheVariants.{Empty, Filling, Idle, Out}
 use Rattle.turn_book.specs.Counts.{same, times, is_ticket, below}
-use Rattle.turn_book.specs.Histories.{StartsWith, longer, Stood}
+use Rattle.turn_book.specs.Histories.{StartsWith, Stood}
 use Rattle.turn_book.specs.Views.{out, is_live, first_view, filling, started, noted, holding, seeing, going_out, advanced, learned, less_one, one_part, joined, spent}
 use Rattle.turn_book.specs.Rule.{Agrees, parts, outs, Turning, Kept}
 use Rattle.turn_book.specs.Steps.{SeatOf, took_empty, began, read, drew, looked, gave, learned_both}
