@@ -3,4 +3,4 @@ pub mod HistoryLemmas
 pub mod RuleLemmas
 pub mod StepLemmas
 pub mod SeatLemmas
-pub mod KnownLemmas
+pub mod CallerLemmas

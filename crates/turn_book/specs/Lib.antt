@@ -4,5 +4,5 @@ pub mod Views
 pub mod Rule
 pub mod Steps
 pub mod Seats
-pub mod Known
+pub mod Callers
 pub mod Lending

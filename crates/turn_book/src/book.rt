@@ -3,13 +3,13 @@ ghost use Rattle.std.specs.Prelude.{◌≡◌, ◌<◌, [], IfOk, IfErr, IfSome,
 ghost use Rattle.turn_book.specs.Histories.{StartsWith};
 ghost use Rattle.turn_book.specs.Views.{advanced};
 ghost use Rattle.turn_book.specs.Seats.{IsIdle, IsOut, AddsTo, AtEnd, Called, Drew, Looked, TookValue, Waits};
-ghost use Rattle.turn_book.specs.Known.{all_parts, starting, ended, given_back, one_less, one_of, both_of, TookOut, AddsEntry, HasOneHistory, Closes};
+ghost use Rattle.turn_book.specs.Callers.{all_parts, starting, ended, given_back, one_less, one_of, both_of, TookOut, AddsEntry, HasOneHistory, Closes};
 
 use crate::callers::{Out, Turns};
+use crate::histories::{Picks, Stands};
 use crate::rule::{
     Advance, Begin, Both, Draw, InTurn, LearnBoth, Look, OnePart, ReadTickets, TakeEmpty,
 };
-use crate::standing::{Picks, Stands};
 use crate::views::View;
 use atomic_table::{Seat, Table};
 use std::alloc::{AllocError, Global};

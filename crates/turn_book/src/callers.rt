@@ -2,7 +2,7 @@
 ghost use Rattle.std.specs.Prelude.{◌≡◌};
 ghost use Rattle.std.specs.Borrow.{sem};
 
-use crate::standing::Stands;
+use crate::histories::Stands;
 use crate::views::View;
 use atomic_table::Seat;
 use std::marker::Model;
@@ -16,7 +16,7 @@ pub struct Turns<S: Stands> {
 }
 
 impl<S: Stands> Model for Turns<S> {
-    ghost use Rattle.turn_book.specs.Known.{Known, known_code, known};
+    ghost use Rattle.turn_book.specs.Callers.{Known, known_code, known};
     ghost use Rattle.turn_book.specs.Seats.{IsSettled};
 
     ghost Value = { Known S.Entry S.Opened };

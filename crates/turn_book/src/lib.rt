@@ -3,10 +3,10 @@
 
 mod book;
 mod callers;
+mod histories;
 mod rule;
-mod standing;
 mod views;
 
 pub use book::TurnBook;
 pub use callers::{Out, Turns};
-pub use standing::{Picks, Stands};
+pub use histories::{Picks, Stands};

@@ -4,7 +4,7 @@ ghost use Rattle.turn_book.specs.Steps.{took_empty, began, read, drew, looked, g
 ghost use Rattle.turn_book.specs.Views.{first_view, less_one, one_part, joined, spent};
 ghost use Rattle.turn_book.specs.declared.views.Stage.TheVariants.{Empty};
 
-use crate::standing::{Picks, Stands};
+use crate::histories::{Picks, Stands};
 use crate::views::View;
 use atomic_table::{Join, Play, Split, TableRule};
 use std::marker::PhantomData;

@@ -1,6 +1,6 @@
 -- A deposit in turn adds its entry.
 use Rattle.std.proofs.Common.{◌≡◌, ℕ, ◌+◌, min, List, [], ◌∷◌, ◌++◌, Some, true, ◌&&◌, refl, sym, ap, ◌∙◌, subst, inl, inr, arith, rules, eq-eqb, append_assoc}
-use Rattle.turn_book.specs.Known.{Known, TookOut, AddsEntry, given_back}
+use Rattle.turn_book.specs.Callers.{Known, TookOut, AddsEntry, given_back}
 use Rattle.turn_tests.specs.declared.accounts.Deposit.{Deposit}
 use Rattle.turn_tests.specs.declared.accounts.Account.{Account}
 use Rattle.turn_tests.specs.Deposits.{deposit, after, is_legal, sum_after, Journals, EndsWith}

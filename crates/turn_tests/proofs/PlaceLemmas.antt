@@ -1,9 +1,9 @@
 -- The replies at their places, while the history grows.
-use Rattle.std.proofs.Common.{◌≡◌, ℕ, zero, suc, ◌+◌, List, [], ◌∷◌, ◌++◌, length, Some, refl, sym, ap, ◌∙◌, subst, slice_get}
+use Rattle.std.proofs.Common.{◌≡◌, ℕ, zero, suc, List, [], ◌∷◌, ◌++◌, length, Some, refl, sym, ap, ◌∙◌, subst, slice_get}
 use Rattle.std.specs.Option.{unwrap_or}
 use Rattle.turn_book.specs.Histories.{StartsWith}
 use Rattle.turn_book.specs.Counts.{times}
-use Rattle.turn_book.specs.Known.{Known, ended, Closes, both_of}
+use Rattle.turn_book.specs.Callers.{Known, ended, Closes, both_of}
 use Rattle.turn_tests.specs.declared.accounts.Deposit.{Deposit}
 use Rattle.turn_tests.specs.declared.accounts.Account.{Account}
 use Rattle.turn_tests.specs.Deposits.{deposit}

@@ -2,7 +2,7 @@
 use Rattle.std.specs.Prelude.{◌≡◌, ℕ, List, [], ◌∷◌, ◌++◌, length, Some, true, slice_get}
 use Rattle.turn_book.specs.Counts.{times, below}
 use Rattle.turn_book.specs.Histories.{StartsWith}
-use Rattle.turn_book.specs.Known.{Known, gone_out, given_back}
+use Rattle.turn_book.specs.Callers.{Known, gone_out, given_back}
 use Rattle.turn_tests.specs.declared.accounts.Deposit.{Deposit}
 use Rattle.turn_tests.specs.declared.accounts.Account.{Account}
 use Rattle.turn_tests.specs.Deposits.{deposit, is_legal, sum_after, EndsWith}

@@ -1,6 +1,6 @@
 //! Deposits, each in its turn.
 ghost use Rattle.std.specs.Prelude.{◌≡◌, ℕ, None, IfSome, MatchOption, false, true};
-ghost use Rattle.turn_book.specs.Known.{ended, given_back, AddsEntry};
+ghost use Rattle.turn_book.specs.Callers.{ended, given_back, AddsEntry};
 ghost use Rattle.turn_tests.specs.Accounts.{StandsFor, Answers};
 
 use crate::accounts::{Account, Amount, Deposit};

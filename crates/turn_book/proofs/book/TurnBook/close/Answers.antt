@@ -2,7 +2,7 @@ use Rattle.std.proofs.Common.{arith, ◌≡◌, ◌∙◌, ap, sym, refl, [], �
 use Rattle.std.specs.Slots.{slots_items, slots_filled, slots_len}
 use Rattle.turn_book.proofs.StepLemmas.{closes}
 use Rattle.turn_book.proofs.SeatLemmas.{closed_some, closed_none}
-use Rattle.turn_book.proofs.KnownLemmas.{idle_of, closes_known}
+use Rattle.turn_book.proofs.CallerLemmas.{idle_of, closes_known}
 use Rattle.turn_book.proofs.book.TurnBook.close.Goals as goal
 
 -- the one slot is empty once its value is taken

@@ -1,6 +1,6 @@
 use Rattle.std.proofs.Common.{◌∙◌, ap, sym, subst}
-use Rattle.turn_book.specs.Known.{AddsEntry}
-use Rattle.turn_book.proofs.KnownLemmas.{out_of, adds_to, gave_settled, gave_known, gave_history}
+use Rattle.turn_book.specs.Callers.{AddsEntry}
+use Rattle.turn_book.proofs.CallerLemmas.{out_of, adds_to, gave_settled, gave_known, gave_history}
 use Rattle.turn_book.proofs.book.TurnBook.give.Goals as goal
 
 pub give_value-requires-clause-own : goal.give_value-requires-clause-own

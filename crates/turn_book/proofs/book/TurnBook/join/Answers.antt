@@ -4,7 +4,7 @@ use Rattle.atomic_table.specs.Table.{step}
 use Rattle.turn_book.specs.Views.{is_live, out, learned}
 use Rattle.turn_book.proofs.StepLemmas.{joins, learning}
 use Rattle.turn_book.proofs.SeatLemmas.{learn_tells}
-use Rattle.turn_book.proofs.KnownLemmas.{idle_of, both_settled, both_known, both_begin}
+use Rattle.turn_book.proofs.CallerLemmas.{idle_of, both_settled, both_known, both_begin}
 use Rattle.turn_book.proofs.book.TurnBook.join.Goals as goal
 
 pub join_seat-requires : goal.join_seat-requires

@@ -4,7 +4,7 @@ use Rattle.turn_book.specs.declared.views.Stage.TheVariants.{Empty, Filling}
 use Rattle.turn_book.specs.Views.{first_view, filling}
 use Rattle.turn_book.proofs.StepLemmas.{takes_empty, begins}
 use Rattle.turn_book.proofs.SeatLemmas.{first_seat}
-use Rattle.turn_book.proofs.KnownLemmas.{first_settled, first_known}
+use Rattle.turn_book.proofs.CallerLemmas.{first_settled, first_known}
 use Rattle.turn_book.proofs.book.TurnBook.make.Goals as goal
 
 pub load-requires : goal.load-requires

@@ -1,7 +1,7 @@
 use Rattle.std.proofs.Common.{rules, ◌<◌, ◌∙◌, ap, sym, subst}
 use Rattle.turn_book.specs.Views.{is_live}
 use Rattle.turn_book.proofs.StepLemmas.{splits}
-use Rattle.turn_book.proofs.KnownLemmas.{idle_of, less_settled, less_known, part_settled, part_known}
+use Rattle.turn_book.proofs.CallerLemmas.{idle_of, less_settled, less_known, part_settled, part_known}
 use Rattle.turn_book.proofs.book.TurnBook.split.Goals as goal
 
 pub split_seat-requires : goal.split_seat-requires

@@ -1,5 +1,5 @@
 use Rattle.std.proofs.Common.{◌∙◌, ap}
-use Rattle.turn_book.proofs.KnownLemmas.{idle_of, end_settled, end_known, took_settled, took_known}
+use Rattle.turn_book.proofs.CallerLemmas.{idle_of, end_settled, end_known, took_settled, took_known}
 use Rattle.turn_book.proofs.book.TurnBook.take.Goals as goal
 
 pub take_value-requires-clause-own : goal.take_value-requires-clause-own

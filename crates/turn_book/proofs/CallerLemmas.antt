@@ -7,7 +7,7 @@ use Rattle.turn_book.specs.Histories.{StartsWith, longer, Stood}
 use Rattle.turn_book.specs.Views.{is_out, first_view, advanced, learned, joined, less_one, one_part}
 use Rattle.turn_book.specs.Steps.{SeatOf}
 use Rattle.turn_book.specs.Seats.{IsIdle, IsOut, IsSettled, AtEnd, TookValue, AddsTo, ClosesSeat}
-use Rattle.turn_book.specs.Known.{Known, known, starting, ended, gone_out, given_back, one_less, one_of, both_of, HasOneHistory, TookOut, AddsEntry, Closes}
+use Rattle.turn_book.specs.Callers.{Known, known, starting, ended, gone_out, given_back, one_less, one_of, both_of, HasOneHistory, TookOut, AddsEntry, Closes}
 
 module _ {S E O : Type 0} where
   -- the value isn't out with a seat that is settled
