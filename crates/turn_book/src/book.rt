@@ -17,9 +17,10 @@ use std::marker::Model;
 use std::sync::Wait;
 use std::thread;
 
-// The word with the number of tickets that were drawn, and that with the number of calls that are done.
+// The word with the number of tickets that were drawn.
 const TICKETS: usize = 0;
 
+// The word with the number of calls that are done.
 const DONE: usize = 1;
 
 /// A value that callers take in turn, in the order of the tickets that they drew. Contracts see which book it is.
