@@ -1,0 +1,8 @@
+pub mod Counts
+pub mod Histories
+pub mod Views
+pub mod Rule
+pub mod Steps
+pub mod Seats
+pub mod Callers
+pub mod Lending

@@ -1,0 +1,2 @@
+mod DepositLemmas
+mod PlaceLemmas
