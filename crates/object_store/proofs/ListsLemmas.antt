@@ -1,5 +1,5 @@
 -- The lists that are seen, against those that are kept.
-use Rattle.std.proofs.Common.{◌≡◌, ◌==◌, ◌+◌, ◌<◌, ◌≤◌, ℕ, Bool, true, false, cond, List, [], ◌∷◌, ◌++◌, map, get_or, Option, None, Some, option_map, is_some, position, refl, sym, ap, subst, ◌∙◌, append_assoc, true≢false, arith}
+use Rattle.std.proofs.Common.{◌≡◌, ◌==◌, ◌+◌, ◌<◌, ℕ, Bool, true, false, cond, List, [], ◌∷◌, ◌++◌, map, get_or, Option, None, Some, option_map, is_some, position, refl, sym, ap, subst, ◌∙◌, append_assoc, true≢false, arith}
 use Rattle.std.proofs.lemmas.Grind.{common_steps}
 use Rattle.std.proofs.lemmas.Bool.Decides.{Decides-eqb}
 use Rattle.std.proofs.lemmas.List.Sums.{sum_by-cons, sum_by-append, sum_by-swap_remove}
@@ -31,16 +31,6 @@ use Rattle.object_store.proofs.BasesLemmas.{there-used, base-there, uses-changed
 -- where there is room for both, there is room for each
 pub room_left : (a b : ℕ) → 0 < smaller a b → 0 < a
 room_left a b both = grind (arith, common_steps)
-
-pub room_left-second : (a b : ℕ) → 0 < smaller a b → 0 < b
-room_left-second a b both = grind (arith, common_steps)
-
--- the room for both falls by no more than each
-pub smaller-falls : (a b c d n : ℕ) → a ≤ c + n → b ≤ d + n → smaller a b ≤ smaller c d + n
-smaller-falls a b c d n first second = grind (arith, common_steps)
-
-pub smaller-above : (a b n : ℕ) → n ≤ a → n ≤ b → n ≤ smaller a b
-smaller-above a b n first second = grind (arith, common_steps)
 
 -- shares as they are kept
 abbrev pub Entries : Type 0
