@@ -1,3 +1,4 @@
 pub mod StartingLemmas
 pub mod FormsLemmas
 pub mod PermittedLemmas
+pub mod CreatorsLemmas

@@ -1,5 +1,5 @@
 -- Access lists: for each permission the actors and the groups that have it.
-use Rattle.std.specs.Prelude.{ℕ, List, [], ◌∷◌, ◌++◌, codes}
+use Rattle.std.specs.Prelude.{ℕ, List, [], ◌∷◌, ◌++◌, Option, Some, None, codes}
 use Rattle.membership.specs.TextSets.{in_order, without}
 use Rattle.access_lists.specs.declared.acl.Acl.{Acl}
 use Rattle.access_lists.specs.declared.acl.Entry.{Entry}
@@ -43,3 +43,8 @@ without_actor name entry = record { actors = without name entry.actors; groups =
 -- the entry without this group
 abbrev pub without_group : List ℕ → Entry → Entry
 without_group name entry = record { actors = entry.actors; groups = without name entry.groups }
+
+-- a list with who creates as an actor of all five permissions
+abbrev pub with_creator : Option (List ℕ) → Acl → Acl
+with_creator None acl = acl
+with_creator (Some creator) acl = each_entry (with_actor creator) acl

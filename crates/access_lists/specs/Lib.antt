@@ -1,4 +1,5 @@
 pub mod Acls
+pub mod Creators
 pub mod Permitted
 pub mod Strangers
 pub mod Starting

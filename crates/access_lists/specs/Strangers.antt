@@ -1,5 +1,5 @@
 -- Names of an entry that an organisation doesn't have.
-use Rattle.std.specs.Prelude.{List, not, Option, position}
+use Rattle.std.specs.Prelude.{not, Option, position}
 use Rattle.std.specs.Option.{option_map, option_or}
 use Rattle.membership.specs.declared.member_kind.MemberKind.TheVariants as kind
 use Rattle.membership.specs.Actors.{has, is_actor}

@@ -1,5 +1,6 @@
 //! Access lists.
 ghost use Rattle.std.specs.Prelude.{◌≡◌, IfOk, OnOk};
+ghost use Rattle.access_lists.specs.Forms.{IsAcl, IsEntry};
 ghost use Rattle.access_lists.specs.Acls.{entry_of, each_entry, with_actor, without_actor, without_group};
 
 use crate::perm::Perm;
@@ -43,6 +44,13 @@ impl Entry {
             actors: self.actors.copy(alloc)?,
             groups: self.groups.copy(alloc)?,
         })
+    }
+
+    fn known(&self)
+        ensures { IsEntry self.now }
+    {
+        let _actors = self.actors.as_slice();
+        let _groups = self.groups.as_slice();
     }
 
     fn with_actor(&self, alloc: Global, name: &Text) -> Result<Entry, NoMemory>
@@ -96,10 +104,23 @@ impl Acl {
         copy_with_actor(alloc, self, name, &mut acl).and(Ok(acl))
     }
 
+    /// The lists of its entries rise: that is kept by their type, and told here.
+    pub(crate) fn known(&self)
+        ensures { IsAcl self.now }
+    {
+        self.create.known();
+        self.read.known();
+        self.update.known();
+        self.delete.known();
+        self.grant.known();
+    }
+
     /// Takes an actor out of every entry, as one that is deleted goes. It takes no memory.
     pub fn take_actor(&mut self, name: &Text)
-        ensures { self.new ≡ each_entry (without_actor name.now) self.old }
+        ensures left { self.new ≡ each_entry (without_actor name.now) self.old }
+        ensures rising { IsAcl self.old }
     {
+        self.known();
         self.create.actors.take_out(name);
         self.read.actors.take_out(name);
         self.update.actors.take_out(name);

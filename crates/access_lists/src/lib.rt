@@ -2,8 +2,10 @@
 #![tactic(auto)]
 
 mod acl;
+mod creator;
 mod fault;
 mod laws;
+mod lent;
 mod perm;
 mod permission;
 mod reading;
@@ -14,6 +16,7 @@ mod writing;
 pub use acl::{Acl, Entry};
 pub use fault::AclFault;
 pub use laws::{access_lists_read_back, permission_is_decided};
+pub use lent::AclAt;
 pub use perm::Perm;
 pub use permission::permitted;
 pub use reading::{read_acl, whole_acl};

@@ -7,6 +7,7 @@ ghost use Rattle.access_lists.specs.Acls.{word_of};
 ghost use Rattle.access_lists.specs.Forms as spec;
 
 use crate::acl::{Acl, Entry};
+use crate::lent::AclAt;
 use crate::perm::Perm;
 use doc_tree::{Fields, NoMemory, Text, Tree};
 use std::alloc::Global;
@@ -14,7 +15,21 @@ use std::alloc::Global;
 /// The document of an access list,
 /// `{"create":{"actors":[..],"groups":[..]},"delete":..,"grant":..,"read":..,"update":..}`.
 /// `whole_acl` reads it back.
-pub fn acl_tree(alloc: Global, acl: &Acl) -> Result<Tree, NoMemory>
+pub fn acl_tree(alloc: Global, acl: AclAt<'_>) -> Result<Tree, NoMemory>
+    ensures { IfOk result (λ tree. doc_of tree ≡ spec.acl_doc acl.entry) }
+{
+    match acl.creator {
+        None => whole_tree(alloc, acl.base),
+        Some(name) => {
+            let whole = acl.base.with_actor(alloc, name)?;
+            let tree = whole_tree(alloc, &whole);
+            drop(whole);
+            tree
+        }
+    }
+}
+
+fn whole_tree(alloc: Global, acl: &Acl) -> Result<Tree, NoMemory>
     ensures { IfOk result (λ tree. doc_of tree ≡ spec.acl_doc acl.now) }
 {
     let mut fields = Fields::with_capacity(alloc, 5)?;

@@ -1,3 +1,4 @@
+pub mod BasesLemmas
 pub mod CopyingLemmas
 pub mod FoundLemmas
 pub mod ItemsLemmas

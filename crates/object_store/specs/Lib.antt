@@ -3,3 +3,4 @@ pub mod Objects
 pub mod Items
 pub mod Shelving
 pub mod Kept
+pub mod Bases

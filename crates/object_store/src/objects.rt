@@ -20,7 +20,7 @@ use crate::listing::in_order;
 use crate::lists::Lists;
 use crate::shelves::{Shelves, add_names, copy_shelves, make_room, put_on, take};
 use crate::shelving::shelved;
-use access_lists::Acl;
+use access_lists::{Acl, AclAt};
 use compact_json::CompactJson;
 use doc_tree::{Kind, NoMemory, Steps, Text, Texts};
 use indexmap::IndexMap;
@@ -85,36 +85,34 @@ impl Objects {
     }
 
     /// The access list of this key, if there is one. It counts no step and takes no memory.
-    pub fn acl(&self, key: &Key) -> Option<&Acl>
-        ensures { option_copied result ≡ finite.get self.now.lists key.now }
+    pub fn acl(&self, key: &Key) -> Option<AclAt<'_>>
+        ensures { result ≡ finite.get self.now.lists key.now }
     {
         self.lists.get(key)
     }
 
-    /// Puts an access list in, and gives back the one that had its key, if there was one. It takes no
-    /// memory.
-    pub fn put_acl(&mut self, key: Key, acl: Acl) -> Option<Acl>
+    /// Puts an access list in, in the place of the one that had its key. It takes no memory: where the list
+    /// is that of the container of its kind, or that with one more actor in each entry, it is kept as such.
+    pub fn put_acl(&mut self, key: Key, acl: Acl)
         requires { 0 < self.old.spare }
         ensures lists { self.new.lists ≡ finite.insert self.old.lists key acl }
-        ensures before { result ≡ finite.get self.old.lists key }
         ensures objects { self.new.objects ≡ self.old.objects }
         ensures spare { self.old.spare ≤ self.new.spare + 1 }
     {
-        self.lists.put(key, acl)
+        self.lists.put(key, acl);
     }
 
-    /// Takes the access list of this key out, if there is one, and gives it back. It takes no memory.
-    pub fn take_acl(&mut self, key: &Key) -> Option<Acl>
+    /// Takes the access list of this key out, if there is one. It takes no memory.
+    pub fn take_acl(&mut self, key: &Key)
         ensures lists { self.new.lists ≡ finite.remove self.old.lists key.now }
-        ensures taken { result ≡ finite.get self.old.lists key.now }
         ensures objects { self.new.objects ≡ self.old.objects }
         ensures spare { self.old.spare ≤ self.new.spare }
     {
-        self.lists.take(key)
+        self.lists.take(key);
     }
 
     /// Takes an actor out of every entry of every access list, as one that is deleted goes. It takes no
-    /// memory, and a look at each list.
+    /// memory, and a look at each key and at each list that keys share.
     pub fn take_actor(&mut self, name: &Text)
         ensures lists { self.new.lists ≡ map_values (each_entry (without_actor name.now)) self.old.lists }
         ensures objects { self.new.objects ≡ self.old.objects }
@@ -124,7 +122,7 @@ impl Objects {
     }
 
     /// Takes a group out of every entry of every access list, as one that is deleted goes. It takes no
-    /// memory, and a look at each list.
+    /// memory, and a look at each list that keys share.
     pub fn take_group(&mut self, name: &Text)
         ensures lists { self.new.lists ≡ map_values (each_entry (without_group name.now)) self.old.lists }
         ensures objects { self.new.objects ≡ self.old.objects }

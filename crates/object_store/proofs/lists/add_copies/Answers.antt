@@ -1,13 +1,19 @@
-use Rattle.std.proofs.Common.{List, subst}
-use Rattle.access_lists.specs.declared.acl.Acl.{Acl}
-use Rattle.object_store.specs.declared.key.Key.{Key}
-use Rattle.object_store.proofs.LateLemmas.{Copying, Copying-more}
+use Rattle.std.proofs.Common.{subst}
+use Rattle.object_store.proofs.ListsLemmas.{Entries, Copied, Copied-there, Copied-more}
 use Rattle.object_store.proofs.lists.add_copies.Goals as goal
 
--- the entry of this turn is copied
+-- the base of the next share is there
+pub copy_of-requires : goal.copy_of-requires
+copy_of-requires c =
+    let bases = c.args.bases.now in
+    let whole = c.args.items.now.entries in
+    Copied-there bases whole c.loop-key.made.lists c.in-Some.key.now c.in-Some.share.now c.next.new.self c.requires.kept
+    (subst (λ (left : Entries). Copied bases whole c.loop-key.made.lists left) c.in-Some.ensures.steps c.loop-key.invariant)
+
+-- the list of this turn is copied
 pub loop-key-preserved : goal.loop-key-preserved
 loop-key-preserved c =
-    let here = subst (λ (left : List (Key × Acl)). Copying c.args.items.now.entries c.loop-key.made.entries left) c.in-Some.ensures.steps c.loop-key.invariant in
-    Copying-more c.args.items.now.entries c.loop-key.made.entries c.next.new.self c.keep.new.items.entries
-    c.in-Some.key.now c.in_ok-copy.field-0 c.in-Some.acl.now c.in_ok-copy-2.field-0
-    here c.in_ok-copy.ensures c.in_ok-copy-2.ensures c.in_ok-keep.ensures
+    let bases = c.args.bases.now in
+    let whole = c.args.items.now.entries in
+    Copied-more bases whole c.loop-key.made.lists c.add_under.new.made.lists c.in-Some.key.now c.in-Some.share.now c.next.new.self c.in_ok-acl.acl
+    (subst (λ (left : Entries). Copied bases whole c.loop-key.made.lists left) c.in-Some.ensures.steps c.loop-key.invariant) c.in_ok-acl.ensures c.in_ok-add_under.ensures

@@ -1,14 +1,12 @@
-use Rattle.std.proofs.Common.{◌∙◌, ap, rules}
-use Rattle.std.proofs.lemmas.Map.Made.{map_same_pairs}
+use Rattle.std.proofs.Common.{◌∙◌, ap}
 use Rattle.membership.specs.MapValues.{map_values}
 use Rattle.access_lists.specs.Acls.{each_entry, without_group}
 use Rattle.object_store.specs.Objects.{KeptLists}
-use Rattle.object_store.proofs.ListsLemmas.{seen-changed}
+use Rattle.object_store.proofs.ListsLemmas.{seen-without_group}
 use Rattle.object_store.proofs.lists.Lists.take_group.Goals as goal
 
--- every list is kept, with the group out of each entry
+-- the group goes from every base, so from every list
 pub returns-clause-lists : goal.returns-clause-lists
 returns-clause-lists c =
-    let change = each_entry (without_group c.args.name.now) in
-    seen-changed change c.self.inside.items.entries c.retain.new.self.entries (map_same_pairs _ change _ (λ k v b w f t. search rules) _ _ c.retain.ensures.filtered)
-    ∙ ap (λ (kept : KeptLists). map_values change kept.lists) c.self.view_is
+    seen-without_group c.args.name.now c.self.inside.items.entries c.self.inside.bases c.take_group_from_each.new.bases c.self.invariant c.take_group_from_each.ensures
+    ∙ ap (λ (kept : KeptLists). map_values (each_entry (without_group c.args.name.now)) kept.lists) c.self.view_is
