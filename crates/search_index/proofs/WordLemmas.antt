@@ -42,7 +42,7 @@ grows_at_most (Ok _) old new more ok err = record { same = ok.same; room = omega
 grows_at_most {K} (Err _) old new more ok err = record { same = λ i. ap (λ (k : Keys K). key_of k i) err; room = omega (arith, ap (λ (k : Keys K). k.room) err); size = omega (arith, ap (λ (k : Keys K). length k.slots) err) }
 
 -- the same words and uses, with more room
-pub reserved : (old : Vocabulary) (texts : Keys (List ℕ)) (uses : List ℕ) → IsCounted old → PadsUses old.uses uses → ((i : ℕ) → key_of texts i ≡ key_of old.texts i) → length texts.slots ≤ length uses → length texts.slots ≤ 4294967295 → IsCounted (record { texts = texts; uses = uses })
+pub reserved : (old : Vocabulary) (texts : Keys (List ℕ)) (uses : List ℕ) → IsCounted old → PadsUses old.uses uses → ((i : ℕ) → key_of texts i ≡ key_of old.texts i) → length texts.slots ≤ length uses → length texts.slots ≤ 4294967294 → IsCounted (record { texts = texts; uses = uses })
 reserved old texts uses counted pads same counts few =
     let used : (i : ℕ) → get_or uses i 0 ≡ uses_at old i = λ i. ap (λ (z : List ℕ). get_or z i 0) pads.1 ∙ padded old.uses pads.0 i in
     record {
