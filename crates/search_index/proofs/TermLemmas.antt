@@ -147,7 +147,7 @@ pub record HasRoomMade (a b : Arrangement TermNumbers) (v w : Vocabulary) (terms
   pub are : AreTerms b w
   pub makes : MakesRoom (terms_in a v) (terms_in b w) terms
 
-pub room_made : (a b : Arrangement TermNumbers) (v w : Vocabulary) (more terms : ℕ) → AreTerms a v → SameWords v w → GrowsAtMost (keys_of a) (keys_of b) more → more ≤ terms → b.order ≡ a.order → length b.slots ≤ 4294967295 → HasRoomMade a b v w terms
+pub room_made : (a b : Arrangement TermNumbers) (v w : Vocabulary) (more terms : ℕ) → AreTerms a v → SameWords v w → GrowsAtMost (keys_of a) (keys_of b) more → more ≤ terms → b.order ≡ a.order → length b.slots ≤ 4294967294 → HasRoomMade a b v w terms
 room_made a b v w more terms are same grows less order few = record {
   are = record {
     counted = λ i. same.uses i ∙ are.counted i ∙ sym (uses_same i a.slots b.slots grows.same);

@@ -42,7 +42,7 @@ all_uses slots i = sum_by (uses_of i) slots
 pub record AreTerms (a : Arrangement TermNumbers) (v : Vocabulary) : Type 0 where
   pub counted : (i : ℕ) → uses_at v i ≡ all_uses a.slots i
   pub in_order : IsInOrder term_cmp (spelled v a)
-  pub few : length a.slots ≤ 4294967295
+  pub few : length a.slots ≤ 4294967294
 
 -- the terms are as they were, in no more than so many further numbers
 pub record MakesRoom (old new : Keys TermKey) (more : ℕ) : Type 0 where

@@ -30,7 +30,7 @@ pub record IsCounted (v : Vocabulary) : Type 0 where
   pub there : (i : ℕ) → IsSome (key_of v.texts i) ↔ (1 ≤ uses_at v i)
   pub once : IsOnce v.texts
   pub counts : length v.texts.slots ≤ length v.uses
-  pub few : length v.texts.slots ≤ 4294967295
+  pub few : length v.texts.slots ≤ 4294967294
 
 -- more words may be used, and none of these is
 abbrev pub PadsUses : List ℕ → List ℕ → Type 0

@@ -9,8 +9,8 @@ use doc_tree::Text;
 use ordered_keys::Probe;
 use std::cmp::Ordering;
 
-/// Scopes, terms and words have no more numbers than this, so that each fits into 32 bits.
-pub(crate) const MOST_NUMBERS: usize = 0xFFFF_FFFF;
+/// Scopes, terms and words have no more numbers than this, so that each fits into 32 bits and 2^32 - 1 is none.
+pub(crate) const MOST_NUMBERS: usize = 0xFFFF_FFFE;
 
 /// An object, by the number of its scope and its name.
 #[derive(Drop)]

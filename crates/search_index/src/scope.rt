@@ -99,7 +99,7 @@ impl Model for Scopes {
 
     ghost view = { λ s. s.held };
 
-    ghost invariant = { λ s. length s.held.slots ≤ 4294967295 };
+    ghost invariant = { λ s. length s.held.slots ≤ 4294967294 };
 }
 
 impl Scopes {
@@ -138,7 +138,7 @@ impl Scopes {
     }
 
     /// Makes so many more numbers, and the memory that a scope under each will want. Where there is no memory, or where
-    /// there would be more than 2^32 - 1 numbers (`NoMemory`), nothing changes.
+    /// there would be 2^32 - 1 numbers or more (`NoMemory`), nothing changes.
     pub(crate) fn grow(&mut self, more: usize) -> Result<(), NoMemory>
         ensures ok { OnOk result (Grows self.old self.new more) }
         ensures err { OnErr result (self.new ≡ self.old) }

@@ -55,7 +55,7 @@ impl Terms {
     }
 
     /// Makes room for so many terms. The terms are as they were, and the room isn't less, also where there is no memory, or
-    /// where there would be more than 2^32 - 1 numbers (`NoMemory`).
+    /// where there would be 2^32 - 1 numbers or more (`NoMemory`).
     pub(crate) fn reserve(&mut self, terms: usize) -> Result<(), NoMemory>
         ensures same { MakesRoom self.old self.new terms }
         ensures ok { OnOk result (terms ≤ self.new.room) }

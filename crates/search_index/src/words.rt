@@ -68,7 +68,7 @@ impl Words {
     }
 
     /// Makes room for so many words. The words and their uses are as they were, and the room isn't less, also where there
-    /// is no memory, or where there would be more than 2^32 - 1 numbers (`NoMemory`).
+    /// is no memory, or where there would be 2^32 - 1 numbers or more (`NoMemory`).
     pub(crate) fn reserve(&mut self, words: usize) -> Result<(), NoMemory>
         ensures same { SameWords self.old self.new }
         ensures ok { OnOk result (words ≤ self.new.texts.room) }

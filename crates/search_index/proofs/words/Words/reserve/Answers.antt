@@ -12,5 +12,5 @@ invariant_of-self-2 c =
     let size = c.size.ensures in
     let most = c.if-size-gt-MOST_NUMBERS.false in
     let padded = c.in_ok-pad.ensures.ok in
-    (reserved old c.grow.new.self c.pad.new.uses.items c.self.invariant c.pad.ensures.pads grows.same grows.room
-    (let a = grows.size in omega arith) (let a = grows.size in omega arith)).counted
+    reserved old c.grow.new.self c.pad.new.uses.items c.self.invariant c.pad.ensures.pads grows.same
+    (let a = grows.size in omega arith) (let a = grows.size in omega arith)
