@@ -2,7 +2,7 @@
 //! is one text: what is asked stands before an arrow in a row, and what is told behind it.
 
 use access_lists::{
-    Acl, AclFault, Container, Entry, Perm, access_lists_read_back, acl_tree, read_acl,
+    Acl, AclAt, AclFault, Container, Entry, Perm, access_lists_read_back, acl_tree, read_acl,
     starting_list, whole_acl,
 };
 use doc_tree::{Bytes, NoMemory, Text, json_text, read_json};
@@ -151,7 +151,7 @@ fn add_whole(told: &mut String, read: &Result<Acl, AclFault>) -> Result<(), NoMe
 
 // The list that the document of a list is read as.
 fn back(alloc: Global, acl: &Acl) -> Result<Acl, AclFault> {
-    let tree = acl_tree(alloc, acl)?;
+    let tree = acl_tree(alloc, AclAt::of(acl))?;
     whole_acl(alloc, &tree)
 }
 
@@ -167,6 +167,12 @@ fn without_group(alloc: Global, acl: &Acl, name: &Text) -> Result<Acl, AclFault>
     Ok(less)
 }
 
+// What is lent of a list with its creator, and one more actor.
+fn created(alloc: Global, acl: &Acl, creator: &Text) -> Result<Acl, AclFault> {
+    let more = Text::from_str(alloc, "zoe")?;
+    Ok(AclAt::created(Some(creator), acl).with_actor(alloc, &more)?)
+}
+
 // A list that is made of `acl`, or that a body is.
 fn made(alloc: Global, acl: &Acl, asked: &str) -> Result<Acl, AclFault> {
     let (deed, rest) = first_word(asked);
@@ -174,6 +180,7 @@ fn made(alloc: Global, acl: &Acl, asked: &str) -> Result<Acl, AclFault> {
         "copy" => Ok(acl.copy(alloc)?),
         "back" => back(alloc, acl),
         "with" => Ok(acl.with_actor(alloc, &Text::from_str(alloc, rest)?)?),
+        "created" => created(alloc, acl, &Text::from_str(alloc, rest)?),
         "without" => without_actor(alloc, acl, &Text::from_str(alloc, rest)?),
         "ungroup" => without_group(alloc, acl, &Text::from_str(alloc, rest)?),
         _ => acl_of(alloc, rest),
@@ -186,6 +193,7 @@ const WHOLE: &str =
 back from its document -> create / read ann / admins ops update bob / team delete / users grant / admins
 with ann -> create ann / read ann / admins ops update ann bob / team delete ann / users grant ann / admins
 with abe -> create abe / read abe ann / admins ops update abe bob / team delete abe / users grant abe / admins
+created abe -> create abe zoe / read abe ann zoe / admins ops update abe bob zoe / team delete abe zoe / users grant abe zoe / admins
 without ann -> create / read / admins ops update bob / team delete / users grant / admins
 without an -> create / read ann / admins ops update bob / team delete / users grant / admins
 ungroup admins -> create / read ann / ops update bob / team delete / users grant /
@@ -231,7 +239,7 @@ fn whole_text(alloc: Global) -> Result<Bytes, NoMemory> {
 }
 
 fn text_of(alloc: Global, acl: &Acl) -> Result<Bytes, NoMemory> {
-    let tree = acl_tree(alloc, acl)?;
+    let tree = acl_tree(alloc, AclAt::of(acl))?;
     json_text(alloc, &tree)
 }
 
@@ -250,6 +258,60 @@ fn the_document_of_a_list_is_its_text(rt: HostRuntime) -> Result<(), Fail> {
         text.as_slice(),
         r#"{"create":{"actors":[],"groups":[]},"delete":{"actors":[],"groups":["users"]},"grant":{"actors":[],"groups":["admins"]},"read":{"actors":["ann"],"groups":["admins","ops"]},"update":{"actors":["bob"],"groups":["team"]}}"#.as_bytes()
     );
+    Ok(())
+}
+
+// Who is told to have created the list with one more actor, or the list itself, over the list `ACL`. One who
+// is an actor already has created no list that is told.
+const CREATORS: &str = "abe -> abe
+zoe -> zoe
+ann -> another list
+ -> nobody
+";
+
+fn list_with(alloc: Global, acl: &Acl, name: &str) -> Result<Acl, NoMemory> {
+    if name.is_empty() {
+        return acl.copy(alloc);
+    }
+    let name = Text::from_str(alloc, name)?;
+    acl.with_actor(alloc, &name)
+}
+
+fn add_creator(told: &mut String, creator: &Result<Option<Text>, Acl>) -> Result<(), NoMemory> {
+    match creator {
+        Ok(Some(name)) => Ok(told.push_str(name.as_str())?),
+        Ok(None) => Ok(told.push_str("nobody")?),
+        Err(_) => Ok(told.push_str("another list")?),
+    }
+}
+
+fn add_creators(alloc: Global, told: &mut String, acl: &Acl) -> Result<(), NoMemory> {
+    for row in CREATORS.lines() {
+        write!(told, "{} -> ", asked(row))?;
+        let list = list_with(alloc, acl, asked(row))?;
+        add_creator(told, &list.creator_over(acl))?;
+        told.push_str("\n")?;
+    }
+    Ok(())
+}
+
+fn creators(alloc: Global, acl: &Acl) -> Result<String, NoMemory> {
+    let mut told = String::new(alloc);
+    add_creators(alloc, &mut told, acl)?;
+    Ok(told)
+}
+
+fn creators_told(alloc: Global) -> Result<String, NoMemory> {
+    match acl_of(alloc, ACL) {
+        Ok(acl) => creators(alloc, &acl),
+        Err(_) => Err(NoMemory),
+    }
+}
+
+#[test]
+fn who_created_a_list_is_told(rt: HostRuntime) -> Result<(), Fail> {
+    let told = creators_told(rt.alloc())?;
+    assert_eq!(rt; told.as_str(), CREATORS);
     Ok(())
 }
 

@@ -1,7 +1,7 @@
 //! What no clause says: that the calls succeed.
 ghost use Rattle.std.specs.Prelude.{◌≡◌, ◌+◌, ◌<◌};
 
-use access_lists::{Acl, Container, starting_list};
+use access_lists::{Acl, AclAt, Container, starting_list};
 use doc_tree::{Kind, NoMemory, Number, Steps, Text, Texts, Tree};
 use object_store::{Key, Objects};
 use std::alloc::Global;
@@ -259,9 +259,14 @@ fn creator(acl: &Acl) -> &str {
     }
 }
 
-fn add_list(told: &mut String, acl: &Option<Acl>) -> Result<(), NoMemory> {
+fn add_name(alloc: Global, told: &mut String, acl: AclAt<'_>) -> Result<(), NoMemory> {
+    let acl = acl.copy(alloc)?;
+    Ok(told.push_str(creator(&acl))?)
+}
+
+fn add_list(alloc: Global, told: &mut String, acl: Option<AclAt<'_>>) -> Result<(), NoMemory> {
     match acl {
-        Some(acl) => Ok(told.push_str(creator(acl))?),
+        Some(acl) => add_name(alloc, told, acl),
         None => Ok(told.push_str("none")?),
     }
 }
@@ -299,8 +304,9 @@ fn put_list(
     let (name, creator) = first_word(rest);
     objects.reserve(1)?;
     let key = key(alloc, kind, name)?;
-    let acl = list_of(alloc, creator)?;
-    add_list(told, &objects.put_acl(key, acl))
+    add_list(alloc, told, objects.acl(&key))?;
+    objects.put_acl(key, list_of(alloc, creator)?);
+    Ok(())
 }
 
 // `both KIND NAME CREATOR`, an object and its list, for which room is made once.
@@ -334,7 +340,9 @@ fn take_list(
     name: &str,
 ) -> Result<(), NoMemory> {
     let key = key(alloc, kind, name)?;
-    add_list(told, &objects.take_acl(&key))
+    add_list(alloc, told, objects.acl(&key))?;
+    objects.take_acl(&key);
+    Ok(())
 }
 
 // `forget actor NAME` or `forget group NAME`, of every list.
@@ -367,10 +375,16 @@ fn deed(
     }
 }
 
-fn add_creator(told: &mut String, body: &str, acl: Option<&Acl>) -> Result<(), NoMemory> {
+fn add_creator(
+    alloc: Global,
+    told: &mut String,
+    body: &str,
+    acl: Option<AclAt<'_>>,
+) -> Result<(), NoMemory> {
+    write!(told, " {body}/")?;
     match acl {
-        Some(acl) => Ok(write!(told, " {body}/{}", creator(acl))?),
-        None => Ok(write!(told, " {body}/-")?),
+        Some(acl) => add_name(alloc, told, acl),
+        None => Ok(told.push_str("-")?),
     }
 }
 
@@ -384,7 +398,7 @@ fn add_state(
 ) -> Result<(), NoMemory> {
     let key = key(alloc, kind, name)?;
     let body = if objects.has(kind, name) { "body" } else { "-" };
-    add_creator(told, body, objects.acl(&key))
+    add_creator(alloc, told, body, objects.acl(&key))
 }
 
 fn add_states(alloc: Global, told: &mut String, objects: &Objects) -> Result<(), NoMemory> {
@@ -451,6 +465,12 @@ list role web1 cat -> none: body/gus -/- -/cat -/cat
 forget group cat -> : body/gus -/- -/cat -/cat
 forget actor gu -> : body/gus -/- -/cat -/cat
 forget actor cat -> : body/gus -/- -/nobody -/nobody
+list node web2 hal -> none: body/gus -/hal -/nobody -/nobody
+list container nodes ida -> nobody: body/gus -/hal -/nobody -/ida
+list node web1 hal -> gus: body/hal -/hal -/nobody -/ida
+unlist container nodes -> ida: body/hal -/hal -/nobody -/-
+copied forget actor hal -> : body/nobody -/nobody -/nobody -/-
+unlist node web1 -> hal: body/- -/hal -/nobody -/-
 ";
 
 fn add_rows(alloc: Global, told: &mut String, objects: &mut Objects) -> Result<(), NoMemory> {

@@ -1,7 +1,7 @@
 //! Who may do what. A table is one text, as in `tests`.
 
 use crate::access_lists_tests::{ACL, acl_of, asked, first_word, perm_of};
-use access_lists::{Acl, permission_is_decided, permitted};
+use access_lists::{Acl, AclAt, permission_is_decided, permitted};
 use doc_tree::{Name, Names, NoMemory, Text};
 use membership::{
     Group, GroupLists, GroupRow, GroupRows, Groups, MemberKind, changes_follow_the_lists,
@@ -189,7 +189,7 @@ fn answered(yes: bool) -> &'static str {
 fn may(alloc: Global, groups: &Groups, acl: &Acl, who: &str) -> Result<bool, NoMemory> {
     let (perm, caller) = first_word(who);
     let caller = Text::from_str(alloc, caller)?;
-    Ok(permitted(groups, acl, perm_of(perm), &caller))
+    Ok(permitted(groups, AclAt::of(acl), perm_of(perm), &caller))
 }
 
 // `has KIND NAME`

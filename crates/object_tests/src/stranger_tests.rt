@@ -2,7 +2,9 @@
 
 use crate::access_lists_tests::{acl_of, asked, yes_or_no};
 use crate::permission_tests::organisation;
-use access_lists::{Acl, AclFault, Entry, Perm, Stranger, first_stranger, permitted, read_acl};
+use access_lists::{
+    Acl, AclAt, AclFault, Entry, Perm, Stranger, first_stranger, permitted, read_acl,
+};
 use doc_tree::{NoMemory, Text, read_json};
 use membership::{Groups, TextSet};
 use std::alloc::Global;
@@ -122,7 +124,7 @@ fn may_read(alloc: Global, groups: &Groups, acl: &Acl) -> Result<String, NoMemor
     let mut told = String::new(alloc);
     for name in "m1 m500 m1000 m999 m1001 m".split_whitespace() {
         let caller = Text::from_str(alloc, name)?;
-        told.push_str(yes_or_no(permitted(groups, acl, Perm::Read, &caller)))?;
+        told.push_str(yes_or_no(permitted(groups, AclAt::of(acl), Perm::Read, &caller)))?;
     }
     Ok(told)
 }
