@@ -1,6 +1,8 @@
 pub mod NumberLemmas
 pub mod RunLemmas
+pub mod NodeLemmas
 pub mod TreeLemmas
+pub mod BranchLemmas
 pub mod FindLemmas
 pub mod ItemLemmas
 pub mod OrderLemmas

@@ -1,5 +1,5 @@
 -- Lists of numbers: which are among them, and lists of which none is there twice.
-use Rattle.std.proofs.Common.{◌≡◌, ◌⊎◌, ℕ, inl, inr, List, [], ◌∷◌, ◌++◌, refl, sym, ap}
+use Rattle.std.proofs.Common.{◌≡◌, ◌⊎◌, ℕ, inl, inr, List, [], ◌∷◌, ◌++◌, refl, sym, ap, subst}
 use Rattle.ordered_keys.specs.Numbers.{Among, AreApart}
 
 pub Among-left : (xs ys : List ℕ) (x : ℕ) → Among xs x → Among (xs ++ ys) x
@@ -47,3 +47,23 @@ apart_remove (y ∷ xs) ys x h =
       (λ a. h.0 (elim (Among-split xs ys y a) [ inl b ↦ Among-left xs (x ∷ ys) y b | inr b ↦ Among-right xs (x ∷ ys) y (inr b) ]), rest.0),
       elim [ inl e ↦ h.0 (Among-right xs (x ∷ ys) y (inl (sym e))) | inr a ↦ rest.1 a ],
     )
+
+-- of two lists that are apart together each is, and they have no number in common
+pub record Parting (xs ys : List ℕ) : Type 0 where
+  pub left : AreApart xs
+  pub right : AreApart ys
+  pub across : (i : ℕ) → Among xs i → Among ys i → ⊥
+
+pub apart_parts : (xs ys : List ℕ) → AreApart (xs ++ ys) → Parting xs ys
+apart_parts [] ys h = record { left = tt; right = h; across = λ i a b. absurd a }
+apart_parts (x ∷ xs) ys h =
+    let rest = apart_parts xs ys h.1 in
+    record {
+      left = (λ a. h.0 (Among-left xs ys x a), rest.left);
+      right = rest.right;
+      across = λ i. elim [ inl e ↦ λ b. h.0 (Among-right xs ys x (subst (λ z. Among ys z) (sym e) b)) | inr a ↦ λ b. rest.across i a b ];
+    }
+
+pub apart_join : (xs ys : List ℕ) → AreApart xs → AreApart ys → ((i : ℕ) → Among xs i → Among ys i → ⊥) → AreApart (xs ++ ys)
+apart_join [] ys one two across = two
+apart_join (x ∷ xs) ys one two across = (λ a. elim (Among-split xs ys x a) [ inl b ↦ one.0 b | inr b ↦ across x (inl refl) b ], apart_join xs ys one.1 two (λ i a b. across i (inr a) b))

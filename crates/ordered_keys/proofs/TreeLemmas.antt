@@ -1,6 +1,5 @@
 -- What a change of one side does to a tree's numbers.
-use Rattle.std.proofs.Common.{◌≡◌, ◌≢◌, ℕ, inl, inr, List, [], ◌∷◌, ◌++◌, Option, Box, IsSome, refl, sym, ap, subst, ◌∙◌, append_assoc}
-use Rattle.std.specs.declared.alloc.Global.{Global}
+use Rattle.std.proofs.Common.{◌≡◌, ◌≢◌, ℕ, inl, inr, List, [], ◌∷◌, ◌++◌, Option, refl, sym, ap, subst, ◌∙◌, append_assoc}
 use Rattle.std.specs.declared.cmp.Ordering.{Ordering}
 use Rattle.std.specs.declared.cmp.Ordering.TheVariants.{Less, Equal, Greater}
 use Rattle.ordered_keys.specs.Numbers.{Among, Loses}
@@ -66,39 +65,33 @@ module _ {T : Type 0} (standing : T → Ordering) (item : ℕ → Option T) wher
 
   -- ---- a number fewer
 
-  pub left_out_right : (all left : List ℕ) (i : ℕ) (right less now : List ℕ) (left_over : Option (Box (List ℕ) Global)) → all ≡ left ++ i ∷ right → stand standing (item i) ≡ Less → LeavesOut standing item right less left_over → now ≡ left ++ i ∷ less → LeavesOut standing item all now left_over
-  left_out_right all left i right less now left_over is below h now_is run id one =
+  pub left_out_right : (all left : List ℕ) (i : ℕ) (right less now : List ℕ) → all ≡ left ++ i ∷ right → stand standing (item i) ≡ Less → LeavesOut standing item right less → now ≡ left ++ i ∷ less → LeavesOut standing item all now
+  left_out_right all left i right less now is below h now_is run id one =
       let fork = forks standing item all left i right is run in
       let mine = below_of standing item i fork.live below in
       elim (Among-split left (i ∷ right) id (subst (λ z. Among z id) is one.among)) [
         | inl b ↦ absurd (not_equal standing item id (up_to_below standing item id i (fork.before id b) mine) one.equal)
         | inr (inl e) ↦ absurd (not_equal standing item id (subst (λ z. IsBelow standing item z) e mine) one.equal)
         | inr (inr b) ↦
-            let later = h fork.right_run id (record { among = b; equal = one.equal; alone = λ j a. one.alone j (subst (λ z. Among z j) (sym is) (Among-right left (i ∷ right) j (inr a))) }) in
-            let gone : Loses right id less = later.0 in (
-              (left ++ i ∷ gone.0, gone.1, is ∙ ap (λ z. left ++ i ∷ z) gone.2 ∙ sym (append_assoc left (i ∷ gone.0) (id ∷ gone.1)), now_is ∙ ap (λ z. left ++ i ∷ z) gone.3 ∙ sym (append_assoc left (i ∷ gone.0) gone.1)),
-              later.1,
-            )
+            let gone : Loses right id less = h fork.right_run id (record { among = b; equal = one.equal; alone = λ j a. one.alone j (subst (λ z. Among z j) (sym is) (Among-right left (i ∷ right) j (inr a))) }) in
+            (left ++ i ∷ gone.0, gone.1, is ∙ ap (λ z. left ++ i ∷ z) gone.2 ∙ sym (append_assoc left (i ∷ gone.0) (id ∷ gone.1)), now_is ∙ ap (λ z. left ++ i ∷ z) gone.3 ∙ sym (append_assoc left (i ∷ gone.0) gone.1))
       ]
 
-  pub left_out_left : (all left : List ℕ) (i : ℕ) (right less now : List ℕ) (left_over : Option (Box (List ℕ) Global)) → all ≡ left ++ i ∷ right → stand standing (item i) ≡ Greater → LeavesOut standing item left less left_over → now ≡ less ++ i ∷ right → LeavesOut standing item all now left_over
-  left_out_left all left i right less now left_over is above h now_is run id one =
+  pub left_out_left : (all left : List ℕ) (i : ℕ) (right less now : List ℕ) → all ≡ left ++ i ∷ right → stand standing (item i) ≡ Greater → LeavesOut standing item left less → now ≡ less ++ i ∷ right → LeavesOut standing item all now
+  left_out_left all left i right less now is above h now_is run id one =
       let fork = forks standing item all left i right is run in
       elim (Among-split left (i ∷ right) id (subst (λ z. Among z id) is one.among)) [
         | inl b ↦
-            let later = h fork.left_run id (record { among = b; equal = one.equal; alone = λ j a. one.alone j (subst (λ z. Among z j) (sym is) (Among-left left (i ∷ right) j a)) }) in
-            let gone : Loses left id less = later.0 in (
-              (gone.0, gone.1 ++ i ∷ right, is ∙ ap (λ z. z ++ i ∷ right) gone.2 ∙ append_assoc gone.0 (id ∷ gone.1) (i ∷ right), now_is ∙ ap (λ z. z ++ i ∷ right) gone.3 ∙ append_assoc gone.0 gone.1 (i ∷ right)),
-              later.1,
-            )
+            let gone : Loses left id less = h fork.left_run id (record { among = b; equal = one.equal; alone = λ j a. one.alone j (subst (λ z. Among z j) (sym is) (Among-left left (i ∷ right) j a)) }) in
+            (gone.0, gone.1 ++ i ∷ right, is ∙ ap (λ z. z ++ i ∷ right) gone.2 ∙ append_assoc gone.0 (id ∷ gone.1) (i ∷ right), now_is ∙ ap (λ z. z ++ i ∷ right) gone.3 ∙ append_assoc gone.0 gone.1 (i ∷ right))
         | inr (inl e) ↦ absurd (greater_is_not_equal (stand standing (item i)) above (ap (λ z. stand standing (item z)) e ∙ one.equal))
         | inr (inr b) ↦ absurd (not_equal_behind standing item i id (fork.after id b) above one.equal)
       ]
 
-  pub left_out_here : (all left : List ℕ) (i : ℕ) (right now : List ℕ) (left_over : Option (Box (List ℕ) Global)) → all ≡ left ++ i ∷ right → stand standing (item i) ≡ Equal → IsSome left_over → now ≡ left ++ right → LeavesOut standing item all now left_over
-  left_out_here all left i right now left_over is here some now_is run id one =
+  pub left_out_here : (all left : List ℕ) (i : ℕ) (right now : List ℕ) → all ≡ left ++ i ∷ right → stand standing (item i) ≡ Equal → now ≡ left ++ right → LeavesOut standing item all now
+  left_out_here all left i right now is here now_is run id one =
       let same : i ≡ id = one.alone i (subst (λ z. Among z i) (sym is) (Among-right left (i ∷ right) i (inl refl))) here in
-      ((left, right, is ∙ ap (λ z. left ++ z ∷ right) same, now_is), some)
+      (left, right, is ∙ ap (λ z. left ++ z ∷ right) same, now_is)
 
 module _ {T : Type 0} (low high : T → Ordering) (item : ℕ → Option T) where
   -- ---- the numbers between two bounds

@@ -1,12 +1,10 @@
 -- What is kept beside the items, for the private clauses.
-use Rattle.std.specs.Prelude.{◌≡◌, ◌⊎◌, ◌↔◌, ℕ, ◌+◌, ◌<◌, ◌≤◌, List, length, Option, None}
+use Rattle.std.specs.Prelude.{◌≡◌, ◌↔◌, ℕ, ◌+◌, ◌<◌, ◌≤◌, List, length, Option, None}
 use Rattle.ordered_keys.specs.Numbers.{Among, AreApart}
 use Rattle.ordered_keys.specs.Keys.{key_in}
 use Rattle.ordered_keys.specs.Arranged.{IsListing}
-
--- the nodes are as many as they were, or no more than were asked for, with room for a size
-abbrev pub IsStocked : ℕ → ℕ → ℕ → ℕ → ℕ → Type 0
-IsStocked old new nodes size room = (new ≡ old) ⊎ ((new ≤ nodes) × (size ≤ room))
+use Rattle.ordered_keys.specs.declared.nodes.Node.{Node}
+use Rattle.ordered_keys.specs.Nodes.{IsChain, IsTree, none, numbers_in}
 
 module _ {T : Type 0} where
   -- these are the numbers that are free
@@ -14,11 +12,14 @@ module _ {T : Type 0} where
     pub members : (i : ℕ) → Among free i ↔ ((i < length slots) × (key_in slots i ≡ None))
     pub apart : AreApart free
 
-  -- the order and the free numbers are all numbers; for each free number there are a place in its list and a node
-  pub record IsStored (slots : List (Option T)) (order free : List ℕ) (free_room spare spare_room : ℕ) : Type 0 where
-    pub listed : IsListing (key_in slots) order
-    pub free_are : AreFree slots free
-    pub total : length order + length free ≡ length slots
-    pub free_fits : length slots ≤ free_room
-    pub spare_are : length free ≤ spare
-    pub spare_fits : length order + spare ≤ spare_room
+  -- each number has a node, in the tree of the order or in the chain of the free numbers, which are all numbers
+  pub record IsStored (slots : List (Option T)) (nodes : List Node) (top free room : ℕ) : Type 0 where
+    pub tree : IsTree nodes top
+    pub listed : IsListing (key_in slots) (numbers_in nodes top)
+    pub unused : List ℕ
+    pub chain : IsChain nodes free unused
+    pub free_are : AreFree slots unused
+    pub count : length unused ≡ room
+    pub total : length (numbers_in nodes top) + room ≡ length slots
+    pub even : length nodes ≡ length slots
+    pub bound : length slots ≤ none

@@ -1,15 +1,11 @@
 -- What the changes of a tree do to its numbers, for the private clauses.
-use Rattle.std.specs.Prelude.{◌≡◌, ◌≢◌, ◌↔◌, ℕ, List, [], ◌∷◌, ◌++◌, Option, Some, None, IsSome, Box}
-use Rattle.std.specs.declared.alloc.Global.{Global}
+use Rattle.std.specs.Prelude.{◌≡◌, ◌≢◌, ◌↔◌, ℕ, ◌≤◌, List, [], ◌∷◌, ◌++◌, length, Option, Some, None, IsSome}
 use Rattle.std.specs.declared.cmp.Ordering.{Ordering}
 use Rattle.std.specs.declared.cmp.Ordering.TheVariants.{Less, Equal, Greater}
 use Rattle.ordered_keys.specs.Numbers.{Among, Loses}
 use Rattle.ordered_keys.specs.Arranged.{AllAre, IsWithin}
-
--- the numbers of a tree, in order
-abbrev pub numbers : Option (Box (List ℕ) Global) → List ℕ
-numbers None = []
-numbers (Some node) = node.value
+use Rattle.ordered_keys.specs.declared.nodes.Node.{Node}
+use Rattle.ordered_keys.specs.Nodes.{Changes, IsTree, numbers_in}
 
 module _ {T : Type 0} (standing : T → Ordering) where
   -- how what is under a number stands to what is sought; where there is nothing, as below it
@@ -59,9 +55,30 @@ module _ {T : Type 0} (standing : T → Ordering) where
       pub equal : stand (item id) ≡ Equal
       pub alone : (j : ℕ) → Among all j → stand (item j) ≡ Equal → j ≡ id
 
-    -- the number of the one equal item is gone, and its node is left over
-    abbrev pub LeavesOut : List ℕ → List ℕ → Option (Box (List ℕ) Global) → Type 0
-    LeavesOut all now node = IsRun all → (id : ℕ) → IsTheOne all id → Loses all id now × IsSome node
+    -- the number of the one equal item is gone
+    abbrev pub LeavesOut : List ℕ → List ℕ → Type 0
+    LeavesOut all now = IsRun all → (id : ℕ) → IsTheOne all id → Loses all id now
+
+    -- a tree became two, that of the items below what is sought and that of the others
+    pub record Parts (old new : List Node) (root front back : ℕ) : Type 0 where
+      pub front_tree : IsTree new front
+      pub back_tree : IsTree new back
+      pub parted : IsParted (numbers_in old root) (numbers_in new front) (numbers_in new back)
+      pub changes : Changes old new (numbers_in old root)
+
+    -- a tree has one number more
+    pub record TakesIn (old new : List Node) (root id now : ℕ) : Type 0 where
+      pub tree : IsTree new now
+      pub placed : IsPlaced (numbers_in old root) id (numbers_in new now)
+      pub changes : Changes old new (id ∷ numbers_in old root)
+
+    -- a tree no longer has the number of the one equal item
+    pub record GivesUp (old new : List Node) (root now : ℕ) : Type 0 where
+      pub tree : IsTree new now
+      pub left_out : LeavesOut (numbers_in old root) (numbers_in new now)
+      pub from : (i : ℕ) → Among (numbers_in new now) i → Among (numbers_in old root) i
+      pub fewer : length (numbers_in new now) ≤ length (numbers_in old root)
+      pub changes : Changes old new (numbers_in old root)
 
 -- the numbers of the items from one bound to below the other were put behind those that were there
 abbrev pub Gathers : {T : Type 0} → (T → Ordering) → (T → Ordering) → (ℕ → Option T) → List ℕ → List ℕ → List ℕ → Type 0

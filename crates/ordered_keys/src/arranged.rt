@@ -3,10 +3,10 @@ ghost use Rattle.std.specs.Prelude.{◌≡◌, ◌+◌, ◌≤◌, MatchOption, 
 ghost use Rattle.ordered_keys.specs.Keys.{Grows, Inserts, Removes, key_in};
 ghost use Rattle.ordered_keys.specs.Numbers.{Loses};
 ghost use Rattle.ordered_keys.specs.Arranged.{AreWithin, CanLeave, HasWithin, IsCut, IsListed, NoneStands, Places, StandsAt, item_of, keys_of};
-ghost use Rattle.ordered_keys.specs.Stored.{IsStocked};
 
+use crate::nodes::{NONE, Node, hang, node_at};
 use crate::sought::{Ranked, Ranking, Sought};
-use crate::tree::{Link, Node, gather, placed, standing_at, without};
+use crate::tree::{gather, placed, standing_at, without};
 use doc_tree::NoMemory;
 use std::alloc::Global;
 use std::cmp::Ordering;
@@ -17,28 +17,30 @@ use std::marker::Model;
 #[derive(Drop)]
 pub struct Arranged<T> {
     items: Vec<Option<T>>,
-    // The numbers of all items, in their order.
-    order: Link,
-    // The numbers without an item.
-    free: Vec<usize>,
-    // Nodes for the numbers that have none in the order.
-    spare: Vec<Box<Node>>,
+    // One for each number: in the tree of the order for that of an item, and for a free one in the chain of the free
+    // numbers, in which each has the next on its right.
+    nodes: Vec<Node>,
+    // The topmost number of the order.
+    top: u32,
+    // The first free number.
+    free: u32,
+    // How many are free.
+    room: usize,
 }
 
 impl<T> Model for Arranged<T> {
-    ghost use Rattle.std.specs.Prelude.{length, vec_capacity};
     ghost use Rattle.ordered_keys.specs.Arranged.{Arrangement, arrangement_code};
 
     ghost Value = { Arrangement T };
 
     ghost coded = { arrangement_code T.code };
 
+    ghost use Rattle.ordered_keys.specs.Nodes.{numbers_in};
     ghost use Rattle.ordered_keys.specs.Stored.{IsStored};
-    ghost use Rattle.ordered_keys.specs.Tree.{numbers};
 
-    ghost view = { λ a. record { slots = a.items.items; order = numbers a.order; room = length a.free.items } };
+    ghost view = { λ a. record { slots = a.items.items; order = numbers_in a.nodes.items a.top; room = a.room } };
 
-    ghost invariant = { λ a. IsStored a.items.items (numbers a.order) a.free.items (vec_capacity a.free) (length a.spare.items) (vec_capacity a.spare) };
+    ghost invariant = { λ a. IsStored a.items.items a.nodes.items a.top a.free a.room };
 }
 
 impl<T> Arranged<T> {
@@ -48,9 +50,10 @@ impl<T> Arranged<T> {
     {
         Arranged {
             items: Vec::new(alloc),
-            order: None,
-            free: Vec::new(alloc),
-            spare: Vec::new(alloc),
+            nodes: Vec::new(alloc),
+            top: NONE,
+            free: NONE,
+            room: 0,
         }
     }
 
@@ -99,7 +102,7 @@ impl<T> Arranged<T> {
     pub fn room(&self) -> usize
         ensures { result ≡ self.now.room }
     {
-        self.free.len()
+        self.room
     }
 
     /// The number of an item that is equal to what is looked for, if there is one. It asks that the arrangement is cut by
@@ -108,13 +111,13 @@ impl<T> Arranged<T> {
         requires { IsCut (S.standing sought.now) self.now }
         ensures { MatchOption result (NoneStands (S.standing sought.now) self.now) (StandsAt (S.standing sought.now) self.now) }
     {
-        let mut at = &self.order;
-        while let Some(boxed) = at {
-            let node: &Node = boxed;
-            match standing_at(&self.items, node.number, sought) {
-                Ordering::Less => at = &node.right,
-                Ordering::Greater => at = &node.left,
-                Ordering::Equal => return Some(node.number),
+        let mut at = self.top;
+        while at != NONE {
+            let node = node_at(&self.nodes, at);
+            match standing_at(&self.items, at, sought) {
+                Ordering::Less => at = node.right,
+                Ordering::Greater => at = node.left,
+                Ordering::Equal => return Some(at as usize),
             }
         }
         None
@@ -133,7 +136,7 @@ impl<T> Arranged<T> {
         ensures { IfOk result (λ numbers. AreWithin (S.standing low.now) (S.standing high.now) self.now numbers.items) }
     {
         let mut found = Vec::new(alloc);
-        gather(&self.order, &self.items, low, high, &mut found)?;
+        gather(&self.nodes, self.top, &self.items, low, high, &mut found)?;
         Ok(found)
     }
 
@@ -143,15 +146,15 @@ impl<T> Arranged<T> {
         requires high { IsCut (S.standing high.now) self.now }
         ensures { IsTrue result ↔ HasWithin (S.standing low.now) (S.standing high.now) self.now }
     {
-        let mut at = &self.order;
-        while let Some(boxed) = at {
-            let node: &Node = boxed;
-            if standing_at(&self.items, node.number, low) == Ordering::Less {
-                at = &node.right;
-            } else if standing_at(&self.items, node.number, high) == Ordering::Less {
+        let mut at = self.top;
+        while at != NONE {
+            let node = node_at(&self.nodes, at);
+            if standing_at(&self.items, at, low) == Ordering::Less {
+                at = node.right;
+            } else if standing_at(&self.items, at, high) == Ordering::Less {
                 return true;
             } else {
-                at = &node.left;
+                at = node.left;
             }
         }
         false
@@ -159,8 +162,8 @@ impl<T> Arranged<T> {
 }
 
 impl<T: Drop> Arranged<T> {
-    /// Makes so many more numbers, and the memory that an item under each will want. Where there is no memory
-    /// (`NoMemory`), nothing changes.
+    /// Makes so many more numbers, and the memory that an item under each will want. Where there is no memory, or there
+    /// would be 2^32 - 1 numbers or more (`NoMemory`), nothing changes.
     pub fn grow(&mut self, more: usize) -> Result<(), NoMemory>
         ensures ok { OnOk result (Grows (keys_of self.old) (keys_of self.new) more) }
         ensures order { self.new.order ≡ self.old.order }
@@ -169,13 +172,19 @@ impl<T: Drop> Arranged<T> {
         let Some(size) = self.items.len().checked_add(more) else {
             return Err(NoMemory);
         };
-        let nodes = size - (self.items.len() - self.free.len());
-        stock(&mut self.spare, nodes, size)?;
-        self.free.reserve(size - self.free.len())?;
+        if size >= NONE as usize {
+            return Err(NoMemory);
+        }
+        self.nodes.reserve(more)?;
         self.items.reserve(more)?;
         for fresh in self.items.len()..size {
             self.items.push_reserved(None);
-            self.free.push_reserved(fresh);
+            self.nodes.push_reserved(Node {
+                left: NONE,
+                right: self.free,
+            });
+            self.free = fresh as u32;
+            self.room += 1;
         }
         Ok(())
     }
@@ -188,15 +197,16 @@ impl<T: Drop> Arranged<T> {
         ensures put { Inserts (keys_of self.old) (keys_of self.new) item result }
         ensures order { Places (λ x. R.cmp ranking.now x item) self.old self.new result }
     {
-        let number = self.free.pop().unwrap();
-        let node = self.spare.pop().unwrap();
+        let number = self.free;
         let sought = Ranked {
             ranking,
             item: &item,
         };
-        self.order = placed(self.order.take(), &self.items, &sought, number, node);
-        self.items[number] = Some(item);
-        number
+        self.free = node_at(&self.nodes, number).right;
+        self.room -= 1;
+        self.top = placed(&mut self.nodes, self.top, &self.items, &sought, number);
+        self.items[number as usize] = Some(item);
+        number as usize
     }
 
     /// Takes out the item under a number, which has one that no other is equal to. It takes no memory.
@@ -207,11 +217,12 @@ impl<T: Drop> Arranged<T> {
     {
         let item = item_at(&self.items, number);
         let sought = Ranked { ranking, item };
-        let (order, node) = without(self.order.take(), &self.items, &sought);
-        self.order = order;
-        self.spare.push_reserved(node.unwrap());
+        self.top = without(&mut self.nodes, self.top, &self.items, &sought);
+        let next = self.free;
+        self.free = number as u32;
+        self.room += 1;
         self.items[number] = None;
-        self.free.push_reserved(number);
+        hang(&mut self.nodes, self.free, NONE, next);
     }
 }
 
@@ -224,20 +235,4 @@ fn item_at<T>(items: &[Option<T>], number: usize) -> &T
         Some(item) => item,
         None => unreachable!(),
     }
-}
-
-/// Makes nodes until there are so many, and room for `size`. What was made before memory ran out stays for the next call.
-fn stock(spare: &mut Vec<Box<Node>>, nodes: usize, size: usize) -> Result<(), NoMemory>
-    requires { nodes ≤ size }
-    ensures ok { OnOk result (nodes ≤ length spare.new.items) }
-    ensures kept { length spare.old.items ≤ length spare.new.items }
-    ensures capacity { vec_capacity spare.old ≤ vec_capacity spare.new }
-    ensures fits { IsStocked (length spare.old.items) (length spare.new.items) nodes size (vec_capacity spare.new) }
-{
-    let alloc = *spare.allocator();
-    spare.reserve(size.saturating_sub(spare.len()))?;
-    while spare.len() < nodes {
-        spare.push_reserved(Box::new(alloc, Node::single(0))?);
-    }
-    Ok(())
 }

@@ -3,6 +3,7 @@
 
 mod arranged;
 mod keys;
+mod nodes;
 mod probes;
 mod ranks;
 mod sought;

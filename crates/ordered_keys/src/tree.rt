@@ -1,199 +1,160 @@
-//! Numbers in the order of their items, as a tree whose nodes are moved and never made: no change of it takes memory.
-ghost use Rattle.std.specs.Prelude.{◌≡◌, ◌++◌, ◌∷◌, [], OnOk};
+//! Numbers in the order of their items, as a tree whose nodes stand under their numbers: no change of it takes memory.
+ghost use Rattle.std.specs.Prelude.{◌≡◌, OnOk};
 ghost use Rattle.ordered_keys.specs.Keys.{key_in};
-ghost use Rattle.ordered_keys.specs.Tree.{Gathers, IsParted, IsPlaced, LeavesOut, numbers, stand};
+ghost use Rattle.ordered_keys.specs.Nodes.{CanJoin, IsNew, IsTree, IsWhole, Joins, numbers_in};
+ghost use Rattle.ordered_keys.specs.Tree.{Gathers, GivesUp, Parts, TakesIn, stand};
 
+use crate::nodes::{NONE, Node, hang, node_at};
 use crate::ranks::is_above;
 use crate::sought::Sought;
 use doc_tree::NoMemory;
 use std::cmp::Ordering;
-use std::marker::Model;
-
-/// A tree of numbers, or none.
-pub(crate) type Link = Option<Box<Node>>;
-
-/// A number with those before it and those behind it. Contracts see all of them, in order.
-#[derive(Drop)]
-pub(crate) struct Node {
-    pub(crate) left: Option<Box<Node>>,
-    pub(crate) number: usize,
-    pub(crate) right: Option<Box<Node>>,
-}
-
-impl Model for Node {
-    ghost use Rattle.std.specs.Prelude.{◌++◌, ◌∷◌, ℕ, List, length};
-
-    ghost Value = { List ℕ };
-
-    ghost use Rattle.ordered_keys.specs.Tree.{numbers};
-
-    ghost view = { λ n. numbers n.left ++ n.number ∷ numbers n.right };
-
-    ghost size = { length };
-
-    ghost use Rattle.std.proofs.Common.{arith, length-append};
-
-    ghost size_decreases = { λ a h. Prim.grind (arith, length-append) };
-}
-
-impl Node {
-    /// A number by itself.
-    pub(crate) fn single(number: usize) -> Node
-        ensures { result ≡ number ∷ [] }
-    {
-        Node {
-            left: None,
-            number,
-            right: None,
-        }
-    }
-
-    /// Takes off those before the number and those behind it.
-    fn open(&mut self) -> (Link, usize, Link)
-        ensures { self.old ≡ numbers result.0 ++ result.1 ∷ numbers result.2 }
-    {
-        (self.left.take(), self.number, self.right.take())
-    }
-
-    /// Puts in another number, with others before it and behind it.
-    fn set(&mut self, left: Link, number: usize, right: Link)
-        ensures { self.new ≡ numbers left ++ number ∷ numbers right }
-    {
-        self.left = left;
-        self.number = number;
-        self.right = right;
-    }
-}
 
 /// The numbers of two trees, one behind the other.
-fn joined(front: Link, back: Link) -> Link
-    ensures { numbers result ≡ numbers front ++ numbers back }
+fn joined(nodes: &mut Vec<Node>, front: u32, back: u32) -> u32
+    requires { CanJoin nodes.old.items front back }
+    ensures { Joins nodes.old.items nodes.new.items front back result }
 {
-    let Some(mut first) = front else {
+    if front == NONE {
         return back;
-    };
-    let Some(mut last) = back else {
-        return Some(first);
-    };
-    if is_above(first.number, last.number) {
-        let (left, number, right) = first.open();
-        first.set(left, number, joined(right, Some(last)));
-        Some(first)
+    }
+    if back == NONE {
+        return front;
+    }
+    if is_above(front as usize, back as usize) {
+        let first = node_at(nodes, front);
+        let right = joined(nodes, first.right, back);
+        hang(nodes, front, first.left, right);
+        front
     } else {
-        let (left, number, right) = last.open();
-        last.set(joined(Some(first), left), number, right);
-        Some(last)
+        let last = node_at(nodes, back);
+        let left = joined(nodes, front, last.left);
+        hang(nodes, back, left, last.right);
+        back
     }
 }
 
 /// How the item under a number stands to what is sought.
-pub(crate) fn standing_at<T, S: Sought<T>>(
-    items: &[Option<T>],
-    number: usize,
-    sought: &S,
-) -> Ordering
+pub(crate) fn standing_at<T, S: Sought<T>>(items: &[Option<T>], number: u32, sought: &S) -> Ordering
     ensures { result ≡ stand (S.standing sought.now) (key_in items.now number) }
 {
-    match items.get(number) {
+    match items.get(number as usize) {
         Some(Some(item)) => sought.standing_of(item),
         _ => Ordering::Less,
     }
 }
 
 /// The numbers whose items are below what is sought, and the others.
-fn parted<T, S: Sought<T>>(tree: Link, items: &[Option<T>], sought: &S) -> (Link, Link)
-    ensures { IsParted (S.standing sought.now) (key_in items.now) (numbers tree) (numbers result.0) (numbers result.1) }
-{
-    let Some(mut node) = tree else {
-        return (None, None);
-    };
-    let (left, number, right) = node.open();
-    match standing_at(items, number, sought) {
-        Ordering::Less => {
-            let (front, back) = parted(right, items, sought);
-            node.set(left, number, front);
-            (Some(node), back)
-        }
-        _ => {
-            let (front, back) = parted(left, items, sought);
-            node.set(back, number, right);
-            (front, Some(node))
-        }
-    }
-}
-
-/// One number more, which stands behind those whose items are below what is sought. It takes over a node.
-pub(crate) fn placed<T, S: Sought<T>>(
-    tree: Link,
+fn parted<T, S: Sought<T>>(
+    nodes: &mut Vec<Node>,
+    root: u32,
     items: &[Option<T>],
     sought: &S,
-    number: usize,
-    spare: Box<Node>,
-) -> Link
-    ensures { IsPlaced (S.standing sought.now) (key_in items.now) (numbers tree) number (numbers result) }
+) -> (u32, u32)
+    requires { IsWhole nodes.old.items root }
+    ensures { Parts (S.standing sought.now) (key_in items.now) nodes.old.items nodes.new.items root result.0 result.1 }
 {
-    match tree {
-        Some(mut node) if is_above(node.number, number) => {
-            let (left, at, right) = node.open();
-            match standing_at(items, at, sought) {
-                Ordering::Less => node.set(left, at, placed(right, items, sought, number, spare)),
-                _ => node.set(placed(left, items, sought, number, spare), at, right),
-            }
-            Some(node)
+    if root == NONE {
+        return (NONE, NONE);
+    }
+    let node = node_at(nodes, root);
+    match standing_at(items, root, sought) {
+        Ordering::Less => {
+            let (front, back) = parted(nodes, node.right, items, sought);
+            hang(nodes, root, node.left, front);
+            (root, back)
         }
-        tree => {
-            let (front, back) = parted(tree, items, sought);
-            let mut node = spare;
-            node.set(front, number, back);
-            Some(node)
+        _ => {
+            let (front, back) = parted(nodes, node.left, items, sought);
+            hang(nodes, root, back, node.right);
+            (front, root)
         }
     }
 }
 
-/// The tree without the number of the equal item, and the node that is left over, where there is such an item.
-pub(crate) fn without<T, S: Sought<T>>(tree: Link, items: &[Option<T>], sought: &S) -> (Link, Link)
-    ensures { LeavesOut (S.standing sought.now) (key_in items.now) (numbers tree) (numbers result.0) result.1 }
+/// The tree with one number more, which stands behind those whose items are below what is sought.
+pub(crate) fn placed<T, S: Sought<T>>(
+    nodes: &mut Vec<Node>,
+    root: u32,
+    items: &[Option<T>],
+    sought: &S,
+    number: u32,
+) -> u32
+    requires { IsNew nodes.old.items root number }
+    ensures { TakesIn (S.standing sought.now) (key_in items.now) nodes.old.items nodes.new.items root number result }
 {
-    let Some(mut node) = tree else {
-        return (None, None);
-    };
-    let (left, number, right) = node.open();
-    match standing_at(items, number, sought) {
+    if root == NONE || !is_above(root as usize, number as usize) {
+        let (front, back) = parted(nodes, root, items, sought);
+        hang(nodes, number, front, back);
+        return number;
+    }
+    let node = node_at(nodes, root);
+    match standing_at(items, root, sought) {
         Ordering::Less => {
-            let (rest, out) = without(right, items, sought);
-            node.set(left, number, rest);
-            (Some(node), out)
+            let right = placed(nodes, node.right, items, sought, number);
+            hang(nodes, root, node.left, right);
+            root
+        }
+        _ => {
+            let left = placed(nodes, node.left, items, sought, number);
+            hang(nodes, root, left, node.right);
+            root
+        }
+    }
+}
+
+/// The tree without the number of the equal item.
+pub(crate) fn without<T, S: Sought<T>>(
+    nodes: &mut Vec<Node>,
+    root: u32,
+    items: &[Option<T>],
+    sought: &S,
+) -> u32
+    requires { IsWhole nodes.old.items root }
+    ensures { GivesUp (S.standing sought.now) (key_in items.now) nodes.old.items nodes.new.items root result }
+{
+    if root == NONE {
+        return NONE;
+    }
+    let node = node_at(nodes, root);
+    match standing_at(items, root, sought) {
+        Ordering::Less => {
+            let right = without(nodes, node.right, items, sought);
+            hang(nodes, root, node.left, right);
+            root
         }
         Ordering::Greater => {
-            let (rest, out) = without(left, items, sought);
-            node.set(rest, number, right);
-            (Some(node), out)
+            let left = without(nodes, node.left, items, sought);
+            hang(nodes, root, left, node.right);
+            root
         }
-        Ordering::Equal => (joined(left, right), Some(node)),
+        Ordering::Equal => joined(nodes, node.left, node.right),
     }
 }
 
 /// Puts the numbers of the items from one bound to below the other behind those that were found before.
 pub(crate) fn gather<T, S: Sought<T>>(
-    tree: &Link,
+    nodes: &Vec<Node>,
+    root: u32,
     items: &[Option<T>],
     low: &S,
     high: &S,
     found: &mut Vec<usize>,
 ) -> Result<(), NoMemory>
-    ensures { OnOk result (Gathers (S.standing low.now) (S.standing high.now) (key_in items.now) (numbers tree.now) found.old.items found.new.items) }
+    requires { IsTree nodes.now.items root }
+    ensures { OnOk result (Gathers (S.standing low.now) (S.standing high.now) (key_in items.now) (numbers_in nodes.now.items root) found.old.items found.new.items) }
 {
-    let Some(boxed) = tree else {
+    if root == NONE {
         return Ok(());
-    };
-    let node: &Node = boxed;
-    if standing_at(items, node.number, low) == Ordering::Less {
-        return gather(&node.right, items, low, high, found);
     }
-    if standing_at(items, node.number, high) != Ordering::Less {
-        return gather(&node.left, items, low, high, found);
+    let node = node_at(nodes, root);
+    if standing_at(items, root, low) == Ordering::Less {
+        return gather(nodes, node.right, items, low, high, found);
     }
-    gather(&node.left, items, low, high, found)?;
-    found.push(node.number)?;
-    gather(&node.right, items, low, high, found)
+    if standing_at(items, root, high) != Ordering::Less {
+        return gather(nodes, node.left, items, low, high, found);
+    }
+    gather(nodes, node.left, items, low, high, found)?;
+    found.push(root as usize)?;
+    gather(nodes, node.right, items, low, high, found)
 }

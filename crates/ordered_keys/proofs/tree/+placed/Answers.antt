@@ -1,17 +1,40 @@
--- The number goes to one side.
-use Rattle.std.proofs.Common.{◌≡◌, ◌++◌, ◌∷◌, sym, ap, ◌∙◌}
+-- The number goes to one side, or above all.
+use Rattle.std.proofs.Common.{arith, sym, ◌∙◌}
 use Rattle.ordered_keys.specs.Keys.{key_in}
-use Rattle.ordered_keys.specs.Tree.{numbers}
-use Rattle.ordered_keys.proofs.TreeLemmas.{placed_left, placed_right}
+use Rattle.ordered_keys.proofs.BranchLemmas.{new_on_left, new_on_right, takes_in_here, takes_in_left, takes_in_right}
+use Rattle.ordered_keys.proofs.NodeLemmas.{has_node, to_left, to_right}
 use Rattle.ordered_keys.proofs.tree.+placed.Goals as goal
-use Rattle.ordered_keys.proofs.tree.+placed.Goals.{in-Less, in_default-standing_at}
 
-pub returns-after-standing_at : goal.returns-after-standing_at
-returns-after-standing_at g t c =
-    let all : numbers c.args.tree ≡ numbers c.open-left.result.0 ++ c.open-left.result.1 ∷ numbers c.open-left.result.2 = ap numbers c.in-Some.is ∙ sym c.deref_mut.ensures.value ∙ c.open-left.ensures in
-    elim c.match-standing_at.branch [
-      | in-Less w ↦ placed_right (g.S.Sought.standing c.args.sought.now) (key_in c.args.items.now) (numbers c.args.tree) (numbers c.open-left.result.0) c.open-left.result.1 (numbers c.open-left.result.2)
-          (numbers w.placed.result) c.args.number c.match-standing_at.node.value all (sym c.standing_at.ensures ∙ w.in-Less.is) w.placed.ensures (ap (λ b. b.value) w.node-is ∙ w.set.ensures)
-      | in_default-standing_at w ↦ placed_left (g.S.Sought.standing c.args.sought.now) (key_in c.args.items.now) (numbers c.args.tree) (numbers c.open-left.result.0) c.open-left.result.1 (numbers c.open-left.result.2)
-          (numbers w.placed-in_default-standing_at.result) c.args.number c.match-standing_at.node.value all (λ e. w.in_default-standing_at.not-Less (c.standing_at.ensures ∙ e)) w.placed-in_default-standing_at.ensures (ap (λ b. b.value) w.node-is ∙ w.set-in_default-standing_at.ensures)
-    ]
+pub returns-then-root-eq-NONE : goal.returns-then-root-eq-NONE
+returns-then-root-eq-NONE g t c = takes_in_here (g.S.Sought.standing c.args.sought.now) (key_in c.args.items.now) c.args.nodes.now.items c.parted-front.new.nodes.items c.hang.new.nodes.items c.args.root c.args.number c.parted-front.result.0 c.parted-front.result.1 c.requires c.parted-front.ensures c.hang.ensures
+
+pub node_at-node-requires : goal.node_at-node-requires
+node_at-node-requires g t c = has_node c.args.nodes.now.items c.args.root c.requires.whole.tree c.if-root-eq-NONE.false
+
+pub placed-right-requires : goal.placed-right-requires
+placed-right-requires g t c κs within =
+    let below = to_right c.args.nodes.now.items c.args.root c.node_at-node.result c.node_at-node.ensures c.requires.whole.tree c.if-root-eq-NONE.false in
+    (omega (arith, below.less, c.decreases), (within.0, (within.1, new_on_right c.args.nodes.now.items c.args.root c.args.number c.node_at-node.result c.node_at-node.ensures c.requires c.if-root-eq-NONE.false)))
+
+pub placed-left-requires : goal.placed-left-requires
+placed-left-requires g t c κs within =
+    let below = to_left c.args.nodes.now.items c.args.root c.node_at-node.result c.node_at-node.ensures c.requires.whole.tree c.if-root-eq-NONE.false in
+    (omega (arith, below.less, c.decreases), (within.0, (within.1, new_on_left c.args.nodes.now.items c.args.root c.args.number c.node_at-node.result c.node_at-node.ensures c.requires c.if-root-eq-NONE.false)))
+
+pub hang-requires-in-Less : goal.hang-requires-in-Less
+hang-requires-in-Less g t c =
+    let has = has_node c.args.nodes.now.items c.args.root c.requires.whole.tree c.if-root-eq-NONE.false in
+    let size = c.placed-right.ensures.changes.size in
+    omega (arith, has, size)
+
+pub hang-requires-in_default : goal.hang-requires-in_default
+hang-requires-in_default g t c =
+    let has = has_node c.args.nodes.now.items c.args.root c.requires.whole.tree c.if-root-eq-NONE.false in
+    let size = c.placed-left.ensures.changes.size in
+    omega (arith, has, size)
+
+pub returns-in-Less : goal.returns-in-Less
+returns-in-Less g t c = takes_in_right (g.S.Sought.standing c.args.sought.now) (key_in c.args.items.now) c.args.nodes.now.items c.placed-right.new.nodes.items c.hang-in-Less.new.nodes.items c.args.root c.args.number c.placed-right.result c.node_at-node.result c.node_at-node.ensures c.requires c.if-root-eq-NONE.false (sym c.standing_at.ensures ∙ c.in-Less.is) c.placed-right.ensures c.hang-in-Less.ensures
+
+pub returns-in_default : goal.returns-in_default
+returns-in_default g t c = takes_in_left (g.S.Sought.standing c.args.sought.now) (key_in c.args.items.now) c.args.nodes.now.items c.placed-left.new.nodes.items c.hang-in_default.new.nodes.items c.args.root c.args.number c.placed-left.result c.node_at-node.result c.node_at-node.ensures c.requires c.if-root-eq-NONE.false (λ e. c.in_default.not-Less (c.standing_at.ensures ∙ e)) c.placed-left.ensures c.hang-in_default.ensures

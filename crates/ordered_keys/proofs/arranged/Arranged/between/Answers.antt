@@ -2,7 +2,8 @@
 use Rattle.std.proofs.Common.{sym, subst}
 use Rattle.ordered_keys.specs.Keys.{key_in}
 use Rattle.ordered_keys.specs.Arranged.{AreWithin, Arrangement, IsCut}
-use Rattle.ordered_keys.specs.Tree.{Gathers, numbers}
+use Rattle.ordered_keys.specs.Nodes.{numbers_in}
+use Rattle.ordered_keys.specs.Tree.{Gathers}
 use Rattle.ordered_keys.proofs.FindLemmas.{gathered_within}
 use Rattle.ordered_keys.proofs.arranged.Arranged.between.Goals as goal
 
@@ -10,7 +11,7 @@ pub returns : goal.returns
 returns g c =
     let low = g.S.Sought.standing c.args.low.now in
     let high = g.S.Sought.standing c.args.high.now in
-    let all = numbers c.self.inside.order in
+    let all = numbers_in c.self.inside.nodes.items c.self.inside.top in
     let found = c.gather.new.found.items in
     subst (λ (a : Arrangement g.row.T.Denot). AreWithin low high a found) c.self.view_is
     (gathered_within low high (key_in c.self.inside.items.items) all found c.self.invariant.listed
