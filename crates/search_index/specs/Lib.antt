@@ -6,6 +6,7 @@ pub mod Net
 pub mod Scope
 pub mod KeyOrder
 pub mod Arena
+pub mod Merge
 pub mod Found
 pub mod Names
 pub mod Seeking

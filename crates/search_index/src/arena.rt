@@ -1,10 +1,11 @@
 //! Scopes, objects and terms under numbers, and the postings between them.
-ghost use Rattle.std.specs.Prelude.{◌≡◌, ◌⊎◌, ◌+◌, ◌<◌, ◌≤◌, IsSome, MatchBool, None, length};
-ghost use Rattle.search_index.specs.Arena.{AddsTerm, DropsAt, DropsFirst, DropsUnused, TermsThere};
+ghost use Rattle.std.specs.Prelude.{◌≡◌, ◌+◌, ◌<◌, ◌≤◌, IsSome, MatchBool, length};
+ghost use Rattle.search_index.specs.Arena.{AddsBehind, AddsTerm, DropsAt, DropsFirst, DropsUnused, TermsThere};
 ghost use Rattle.ordered_keys.specs.Keys.{IsOnce, key_of};
-ghost use Rattle.search_index.specs.Net.{HasNone, held, used};
+ghost use Rattle.search_index.specs.Net.{HasNone, IsBehind, held, used};
 
 use crate::key::TermKey;
+use crate::posting::Place;
 use crate::postings::Postings;
 use ordered_keys::Ordered;
 
@@ -22,8 +23,27 @@ pub(crate) fn add(
     requires once { IsOnce terms.old }
     ensures { AddsTerm terms.old terms.new postings.old postings.new object key }
 {
+    add_behind(terms, postings, object, key, Place::none());
+}
+
+/// The same, behind a place in the chain of the object. It tells the place of the posting.
+pub(crate) fn add_behind(
+    terms: &mut Ordered<TermKey>,
+    postings: &mut Postings,
+    object: usize,
+    key: TermKey,
+    before: Place,
+) -> Place
+    requires object { object < postings.old.objects }
+    requires heads { length terms.old.slots ≤ postings.old.terms }
+    requires room { 1 ≤ terms.old.room }
+    requires place { used postings.old + 1 ≤ postings.old.capacity }
+    requires once { IsOnce terms.old }
+    requires before { IsBehind postings.old object before }
+    ensures { AddsBehind terms.old terms.new postings.old postings.new object key before result }
+{
     let term = terms.number_of(key);
-    postings.join(object, term);
+    postings.join_behind(object, term, before)
 }
 
 /// Takes out a posting of an object, and its term where that has no other, and tells whether there was one.
@@ -44,15 +64,14 @@ pub(crate) fn drop_first(
     }
 }
 
-/// Takes out the posting in a place, and its term where that has no other. Where there is none, nothing changes.
+/// Takes out the posting in a place, and its term where that has no other.
 pub(crate) fn drop_at(terms: &mut Ordered<TermKey>, postings: &mut Postings, place: usize)
-    requires { TermsThere terms.old postings.old }
-    ensures { DropsAt terms.old terms.new postings.old postings.new place ⊎ ((terms.new ≡ terms.old) × (postings.new ≡ postings.old) × (held postings.old place ≡ None)) }
+    requires terms { TermsThere terms.old postings.old }
+    requires taken { IsSome (held postings.old place) }
+    ensures { DropsAt terms.old terms.new postings.old postings.new place }
 {
-    if postings.is_taken(place) {
-        let term = postings.take_at(place);
-        drop_unused(terms, postings, term);
-    }
+    let term = postings.take_at(place);
+    drop_unused(terms, postings, term);
 }
 
 /// Takes out a term that no posting is of.
