@@ -146,7 +146,7 @@ pub length-heads_without : (heads : List (Option ℕ)) (h : ℕ) (b n : Option �
 length-heads_without heads h None n = length-set heads h n
 length-heads_without heads h (Some b) n = refl
 
-heads_without-other : (heads : List (Option ℕ)) (h k : ℕ) (b n : Option ℕ) → k ≢ h → slice_get (heads_without heads h b n) k ≡ slice_get heads k
+pub heads_without-other : (heads : List (Option ℕ)) (h k : ℕ) (b n : Option ℕ) → k ≢ h → slice_get (heads_without heads h b n) k ≡ slice_get heads k
 heads_without-other heads h k None n differs = slice_get-set_other heads h k n differs
 heads_without-other heads h k (Some b) n differs = refl
 

@@ -1,4 +1,5 @@
 pub mod ChainLemmas
+pub mod OrderLemmas
 pub mod StoreLemmas
 pub mod NetLemmas
 pub mod WalkLemmas
@@ -9,7 +10,8 @@ pub mod TermLemmas
 pub mod GivenLemmas
 pub mod GoneLemmas
 pub mod PlaceLemmas
-pub mod ReplacedLemmas
+pub mod ListedLemmas
+pub mod MergeLemmas
 pub mod Neighbours
 pub mod FoundLemmas
 pub mod SeekLemmas

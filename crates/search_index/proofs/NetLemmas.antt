@@ -1,17 +1,19 @@
 -- The arena: what a change of two links leaves, and a posting out of a chain.
-use Rattle.std.proofs.Common.{◌≡◌, ◌≢◌, ◌⊎◌, ℕ, ◌+◌, ◌<◌, inl, inr, cond, List, [], ◌∷◌, length, map, slice_get, Option, Some, None, is_some, option_map, count_by, sum_by, get_or, set, refl, sym, ap, subst, ◌∙◌, arith}
+use Rattle.std.proofs.Common.{◌≡◌, ◌≢◌, ◌⊎◌, ◌↔◌, ℕ, ◌+◌, ◌<◌, inl, inr, cond, List, [], ◌∷◌, ◌++◌, length, map, slice_get, Option, Some, None, is_some, option_map, count_by, sum_by, get_or, set, refl, sym, ap, subst, ◌∙◌, arith}
 use Rattle.std.proofs.lemmas.Bool.{cases_eq, cases_lt}
 use Rattle.std.proofs.lemmas.List.{append-nil, get_or_past, length-set}
-use Rattle.std.proofs.lemmas.Option.{slice_get-get_or}
+use Rattle.std.proofs.lemmas.Option.{slice_get_within, slice_get-get_or}
 use Rattle.std.proofs.Math.ListN.{get_or-map}
 use Rattle.std.proofs.lemmas.List.Sums.{sum_by-cons, sum_by-set}
 use Rattle.search_index.specs.Places.{Places, get, with_value, taken_count, Updates}
 use Rattle.search_index.proofs.StoreLemmas.{updates_written, taken_within}
 use Rattle.search_index.specs.Posting.{link, link_of, owner_of, owner_in, with_next, with_before, pair_of, other_side}
 use Rattle.ordered_keys.specs.Numbers.{Among}
-use Rattle.search_index.specs.Chains.{IsChain, IsLinked, Joins, IsWithout, IsWith}
+use Rattle.ordered_keys.proofs.NumberLemmas.{Among-left, Among-right}
+use Rattle.search_index.specs.Chains.{Enters, HasChain, IsChain, IsLinked, Joins, IsWithout, IsWith, first_in, last_from}
 use Rattle.search_index.specs.Net.{links, pairs, owners, changed_at, heads_without, Unlinks, held, used, net_of, IsSound, Takes, Adds, Pads}
-use Rattle.search_index.proofs.ChainLemmas.{linked_unlinks, linked_pushes, linked_kept, linked_pads, length-heads_without, neighbours_differ, next_among, chained}
+use Rattle.search_index.proofs.OrderLemmas.{chain_kept, chain_members, enters_chain, first_among, last_in, linked_enters, sides_apart, unlinks_chain}
+use Rattle.search_index.proofs.ChainLemmas.{alone, path, linked_unlinks, linked_pushes, linked_kept, linked_pads, length-heads_without, neighbours_differ, next_among, chained}
 use Rattle.search_index.specs.declared.posting.Link.{Link}
 use Rattle.search_index.specs.declared.posting.Side.{Side}
 use Rattle.search_index.specs.declared.posting.Side.TheVariants as side
@@ -153,6 +155,13 @@ unlinked s old new heads less place x at was written headed =
       len = ap taken_count written ∙ changed-len (changed_at old b (with_next s n)) n (with_before s b) ∙ changed-len old b (with_next s n);
       capacity = ap (λ (t : Places). t.capacity) written ∙ changed-capacity (changed_at old b (with_next s n)) n (with_before s b) ∙ changed-capacity old b (with_next s n);
       count = ap length headed ∙ length-heads_without heads (owner_of s x) b n;
+      chain = λ h front back has.
+          let here = (chain_members (links s old) (owners s (pairs old)) heads h (front ++ place ∷ back) was has place).0 (Among-right front (place ∷ back) place (inl refl)) in
+          let same : owner_of s x ≡ h = cc in
+          subst (λ z. HasChain (links s z) less h (front ++ back)) (sym whole) (subst (λ z. HasChain (links s (rejoined s old b n)) z h (front ++ back)) (sym headed)
+          (subst (λ k. HasChain (links s (rejoined s old b n)) (heads_without heads k b n) h (front ++ back)) (sym same)
+          (unlinks_chain (links s old) (links s (rejoined s old b n)) heads h place (link_of s x) front back (slice_get_within heads h has.first has.there) has is
+          (joined s old b n (neighbours_differ (links s old) (owners s (pairs old)) heads (owner_of s x) place (link_of s x) was mine is)))));
     }
 
 -- the owner of a posting has a head
@@ -223,6 +232,7 @@ pub record IsTaken (items less : Places) (objects terms fewer_objects fewer_term
   pub sound : IsSound less fewer_objects fewer_terms
   pub takes : Takes (net_of items objects terms) (net_of less fewer_objects fewer_terms) x.object x.term
   pub at : takes.place ≡ place
+  pub chain : (h : ℕ) (front back : List ℕ) → HasChain (links side.Object items) objects h (front ++ place ∷ back) → HasChain (links side.Object less) fewer_objects h (front ++ back)
 
 pub taken : (items one two less : Places) (objects terms fewer_objects fewer_terms : List (Option ℕ)) (place : ℕ) (x : Posting)
     → IsSound items objects terms → get items place ≡ Some x → Unlinks side.Term items one terms fewer_terms place → Unlinks side.Object one two objects fewer_objects place
@@ -248,6 +258,10 @@ taken items one two less objects terms fewer_objects fewer_terms place x sound a
         size = record { capacity = capacity ∙ of_object.capacity ∙ of_term.capacity; objects = of_object.count; terms = of_term.count };
       };
       at = refl;
+      chain = λ h front back has.
+          chain_kept (links side.Object two) (links side.Object less) fewer_objects h (front ++ back)
+          (λ q a. ap (option_map (link_of side.Object)) (updates.others q (λ e. alone (links side.Object items) has.first front place back (path (links side.Object items) None has.first (front ++ place ∷ back) has.chain) (subst (λ z. Among (front ++ back) z) e a))))
+          (of_object.chain h front back (chain_kept (links side.Object items) (links side.Object one) objects h (front ++ place ∷ back) (λ q a. of_term.other q) has));
     }
 
 -- ---- a posting into both chains
@@ -269,62 +283,102 @@ side_pushes s items t owner more heads h place first linked at with none is same
     ∙ ap Some (before_link s (Some place) read.0) ∙ ap (λ (k : Link). Some (link (Some place) k.next)) read.2)
     (λ y differs e. ap (option_map (link_of s)) (other_read t first (with_before s (Some place)) y e) ∙ same y differs)
 
--- a posting was put in
-pub record IsAdded (items more : Places) (objects terms more_objects more_terms : List (Option ℕ)) (object term : ℕ) : Type 0 where
+-- a place between its neighbours in a chain
+between : Side → Places → ℕ → Option ℕ → Option ℕ → Places
+between s one place before next = changed_at (changed_at one before (with_next s (Some place))) next (with_before s (Some place))
+
+entered : (s : Side) (items one : Places) (place : ℕ) (b n : Option ℕ) → ((z : ℕ) → b ≡ Some z → n ≡ Some z → ⊥) → b ≢ Some place → n ≢ Some place → links s one place ≡ Some (link b n) → ((q : ℕ) → q ≢ place → links s one q ≡ links s items q)
+    → Enters (links s items) (links s (between s one place b n)) place b n
+unfolding between
+entered s items one place b n differ not_b not_n is same = record {
+  put = ap (option_map (link_of s)) (other_read (changed_at one b (with_next s (Some place))) n (with_before s (Some place)) place not_n ∙ other_read one b (with_next s (Some place)) place not_b) ∙ is;
+  front = λ x l e at.
+      let read = read_link s one x l (same x (λ f. not_b (e ∙ ap Some f)) ∙ at) in
+      ap (option_map (link_of s)) (other_read (changed_at one b (with_next s (Some place))) n (with_before s (Some place)) x (differ x e))
+      ∙ ap (λ z. links s (changed_at one z (with_next s (Some place))) x) e
+      ∙ ap (option_map (link_of s)) (here_read one x (with_next s (Some place)) read.0 read.1)
+      ∙ ap Some (next_link s (Some place) read.0) ∙ ap (λ (k : Link). Some (link k.before (Some place))) read.2;
+  back = λ x l e at.
+      let read = read_link s one x l (same x (λ f. not_n (e ∙ ap Some f)) ∙ at) in
+      let middle : get (changed_at one b (with_next s (Some place))) x ≡ Some read.0 = other_read one b (with_next s (Some place)) x (λ f. differ x f e) ∙ read.1 in
+      ap (λ z. links s (changed_at (changed_at one b (with_next s (Some place))) z (with_before s (Some place))) x) e
+      ∙ ap (option_map (link_of s)) (here_read (changed_at one b (with_next s (Some place))) x (with_before s (Some place)) read.0 middle)
+      ∙ ap Some (before_link s (Some place) read.0) ∙ ap (λ (k : Link). Some (link (Some place) k.next)) read.2;
+  others = λ x off e f. ap (option_map (link_of s)) (other_read (changed_at one b (with_next s (Some place))) n (with_before s (Some place)) x f ∙ other_read one b (with_next s (Some place)) x e) ∙ same x off;
+}
+
+-- a posting was put in, between two of its object
+pub record IsAdded (items more : Places) (objects terms more_objects more_terms : List (Option ℕ)) (object term place : ℕ) (front back : List ℕ) : Type 0 where
   pub sound : IsSound more more_objects more_terms
   pub adds : Adds (net_of items objects terms) (net_of more more_objects more_terms) object term
+  pub at : adds.place ≡ place
+  pub chain : HasChain (links side.Object more) more_objects object (front ++ place ∷ back)
 
-pub added : (items one two three : Places) (objects terms : List (Option ℕ)) (object term place : ℕ) (first_object first_term : Option ℕ)
-    → IsSound items objects terms → slice_get objects object ≡ Some first_object → slice_get terms term ≡ Some first_term → get items place ≡ None
-    → Updates items one place (Some (record { object = object; term = term; of_object = link None first_object; of_term = link None first_term }))
+pub added : (items one two three four : Places) (objects terms : List (Option ℕ)) (object term place : ℕ) (before next first_term : Option ℕ) (front back : List ℕ)
+    → IsSound items objects terms → HasChain (links side.Object items) objects object (front ++ back) → last_from None front ≡ before → first_in back ≡ next → slice_get terms term ≡ Some first_term → get items place ≡ None
+    → Updates items one place (Some (record { object = object; term = term; of_object = link before next; of_term = link None first_term }))
     → taken_count one ≡ taken_count items + 1 → one.capacity ≡ items.capacity
-    → two ≡ changed_at one first_object (with_before side.Object (Some place)) → three ≡ changed_at two first_term (with_before side.Term (Some place))
-    → IsAdded items three objects terms (set objects object (Some place)) (set terms term (Some place)) object term
-added items one two three objects terms object term place first_object first_term sound at_object at_term free updates len capacity second third =
-    let x : Posting = record { object = object; term = term; of_object = link None first_object; of_term = link None first_term } in
-    let pairs_two : (q : ℕ) → pairs two q ≡ pairs one q = λ q. ap (λ z. pairs z q) second ∙ same_read pair_of (with_before side.Object (Some place)) (before_pair side.Object (Some place)) one first_object q in
-    let pairs_three : (q : ℕ) → pairs three q ≡ pairs one q = λ q. ap (λ z. pairs z q) third ∙ same_read pair_of (with_before side.Term (Some place)) (before_pair side.Term (Some place)) two first_term q ∙ pairs_two q in
-    let terms_two : (q : ℕ) → links side.Term two q ≡ links side.Term one q = λ q. ap (λ z. links side.Term z q) second ∙ same_read (link_of side.Term) (with_before side.Object (Some place)) (before_other side.Object (Some place)) one first_object q in
-    let objects_three : (q : ℕ) → links side.Object three q ≡ links side.Object two q = λ q. ap (λ z. links side.Object z q) third ∙ same_read (link_of side.Object) (with_before side.Term (Some place)) (before_other side.Term (Some place)) two first_term q in
-    let with : (s : Side) → IsWith (owners s (pairs items)) (owners s (pairs three)) place (owner_of s x) = λ s. record {
+    → two ≡ changed_at one before (with_next side.Object (Some place)) → three ≡ changed_at two next (with_before side.Object (Some place)) → four ≡ changed_at three first_term (with_before side.Term (Some place))
+    → IsAdded items four objects terms (heads_without objects object before (Some place)) (set terms term (Some place)) object term place front back
+unfolding between
+added items one two three four objects terms object term place before next first_term front back sound has last firsts at_term free updates len capacity second third fourth =
+    let x : Posting = record { object = object; term = term; of_object = link before next; of_term = link None first_term } in
+    let heads : List (Option ℕ) = heads_without objects object before (Some place) in
+    let pairs_two : (q : ℕ) → pairs two q ≡ pairs one q = λ q. ap (λ z. pairs z q) second ∙ same_read pair_of (with_next side.Object (Some place)) (next_pair side.Object (Some place)) one before q in
+    let pairs_three : (q : ℕ) → pairs three q ≡ pairs one q = λ q. ap (λ z. pairs z q) third ∙ same_read pair_of (with_before side.Object (Some place)) (before_pair side.Object (Some place)) two next q ∙ pairs_two q in
+    let pairs_four : (q : ℕ) → pairs four q ≡ pairs one q = λ q. ap (λ z. pairs z q) fourth ∙ same_read pair_of (with_before side.Term (Some place)) (before_pair side.Term (Some place)) three first_term q ∙ pairs_three q in
+    let terms_two : (q : ℕ) → links side.Term two q ≡ links side.Term one q = λ q. ap (λ z. links side.Term z q) second ∙ same_read (link_of side.Term) (with_next side.Object (Some place)) (next_other side.Object (Some place)) one before q in
+    let terms_three : (q : ℕ) → links side.Term three q ≡ links side.Term one q = λ q. ap (λ z. links side.Term z q) third ∙ same_read (link_of side.Term) (with_before side.Object (Some place)) (before_other side.Object (Some place)) two next q ∙ terms_two q in
+    let objects_four : (q : ℕ) → links side.Object four q ≡ links side.Object three q = λ q. ap (λ z. links side.Object z q) fourth ∙ same_read (link_of side.Object) (with_before side.Term (Some place)) (before_other side.Term (Some place)) three first_term q in
+    let with : (s : Side) → IsWith (owners s (pairs items)) (owners s (pairs four)) place (owner_of s x) = λ s. record {
       free = ap (λ o. option_map (owner_in s) (option_map pair_of o)) free;
-      put = ap (option_map (owner_in s)) (pairs_three place ∙ ap (option_map pair_of) updates.changed) ∙ ap Some (owner_pair s x);
-      others = λ q differs. ap (option_map (owner_in s)) (pairs_three q ∙ ap (option_map pair_of) (updates.others q differs));
+      put = ap (option_map (owner_in s)) (pairs_four place ∙ ap (option_map pair_of) updates.changed) ∙ ap Some (owner_pair s x);
+      others = λ q differs. ap (option_map (owner_in s)) (pairs_four q ∙ ap (option_map pair_of) (updates.others q differs));
     } in
-    let in_two : IsLinked (links side.Object two) (owners side.Object (pairs three)) (set objects object (Some place)) =
-    subst (λ z. IsLinked (links side.Object z) (owners side.Object (pairs three)) (set objects object (Some place))) (sym second)
-    (side_pushes side.Object items one (owners side.Object (pairs items)) (owners side.Object (pairs three)) objects object place first_object sound.of_objects at_object (with side.Object)
-    (ap (option_map (link_of side.Object)) free) (ap (option_map (link_of side.Object)) updates.changed) (λ q differs. ap (option_map (link_of side.Object)) (updates.others q differs))) in
-    let in_three : IsLinked (links side.Term three) (owners side.Term (pairs three)) (set terms term (Some place)) =
-    subst (λ z. IsLinked (links side.Term z) (owners side.Term (pairs three)) (set terms term (Some place))) (sym third)
-    (side_pushes side.Term items two (owners side.Term (pairs items)) (owners side.Term (pairs three)) terms term place first_term sound.of_terms at_term (with side.Term)
-    (ap (option_map (link_of side.Term)) free) (terms_two place ∙ ap (option_map (link_of side.Term)) updates.changed) (λ q differs. terms_two q ∙ ap (option_map (link_of side.Term)) (updates.others q differs))) in
+    let members : (q : ℕ) → Among (front ++ back) q ↔ (owners side.Object (pairs items) q ≡ Some object) = chain_members (links side.Object items) (owners side.Object (pairs items)) objects object (front ++ back) sound.of_objects has in
+    let out : Among (front ++ back) place → ⊥ = λ a. let mine = (members place).0 a in let none : owners side.Object (pairs items) place ≡ None = ap (λ o. option_map (owner_in side.Object) (option_map pair_of o)) free in absurd (cc) in
+    let differ : (z : ℕ) → before ≡ Some z → next ≡ Some z → ⊥ = λ z e f. sides_apart (links side.Object items) has.first front back z (path (links side.Object items) None has.first (front ++ back) has.chain) (last_in front z (last ∙ e)) (first_among back z (firsts ∙ f)) in
+    let whole : three ≡ between side.Object one place before next = third ∙ ap (λ z. changed_at z next (with_before side.Object (Some place))) second in
+    let enters : Enters (links side.Object items) (links side.Object three) place before next =
+    subst (λ z. Enters (links side.Object items) (links side.Object z) place before next) (sym whole)
+    (entered side.Object items one place before next differ (λ e. out (Among-left front back place (last_in front place (last ∙ e)))) (λ e. out (Among-right front back place (first_among back place (firsts ∙ e))))
+    (ap (option_map (link_of side.Object)) updates.changed) (λ q differs. ap (option_map (link_of side.Object)) (updates.others q differs))) in
+    let in_three : IsLinked (links side.Object three) (owners side.Object (pairs four)) heads =
+    linked_enters (links side.Object items) (links side.Object three) (owners side.Object (pairs items)) (owners side.Object (pairs four)) objects object place before next front back sound.of_objects has last firsts (with side.Object) enters in
+    let in_four : IsLinked (links side.Term four) (owners side.Term (pairs four)) (set terms term (Some place)) =
+    subst (λ z. IsLinked (links side.Term z) (owners side.Term (pairs four)) (set terms term (Some place))) (sym fourth)
+    (side_pushes side.Term items three (owners side.Term (pairs items)) (owners side.Term (pairs four)) terms term place first_term sound.of_terms at_term (with side.Term)
+    (ap (option_map (link_of side.Term)) free) (terms_three place ∙ ap (option_map (link_of side.Term)) updates.changed) (λ q differs. terms_three q ∙ ap (option_map (link_of side.Term)) (updates.others q differs))) in
     record {
       sound = record {
-        of_objects = linked_kept (links side.Object two) (links side.Object three) (owners side.Object (pairs three)) (owners side.Object (pairs three)) (set objects object (Some place)) (λ q h e. objects_three q) (λ q. refl) in_two;
-        of_terms = in_three;
+        of_objects = linked_kept (links side.Object three) (links side.Object four) (owners side.Object (pairs four)) (owners side.Object (pairs four)) heads (λ q h e. objects_four q) (λ q. refl) in_three;
+        of_terms = in_four;
       };
       adds = record {
         place = place;
         was = held-net items objects terms place ∙ ap (option_map pair_of) free;
         changes = record {
-          at = held-net three (set objects object (Some place)) (set terms term (Some place)) place ∙ pairs_three place ∙ ap (option_map pair_of) updates.changed;
-          others = λ q differs. held-net three (set objects object (Some place)) (set terms term (Some place)) q ∙ pairs_three q ∙ ap (option_map pair_of) (updates.others q differs) ∙ sym (held-net items objects terms q);
+          at = held-net four heads (set terms term (Some place)) place ∙ pairs_four place ∙ ap (option_map pair_of) updates.changed;
+          others = λ q differs. held-net four heads (set terms term (Some place)) q ∙ pairs_four q ∙ ap (option_map pair_of) (updates.others q differs) ∙ sym (held-net items objects terms q);
         };
         used = omega (
           arith,
           used-net items objects terms,
-          used-net three (set objects object (Some place)) (set terms term (Some place)),
+          used-net four heads (set terms term (Some place)),
           len,
-          ap taken_count second ∙ changed-len one first_object (with_before side.Object (Some place)),
-          ap taken_count third ∙ changed-len two first_term (with_before side.Term (Some place)),
+          ap taken_count second ∙ changed-len one before (with_next side.Object (Some place)),
+          ap taken_count third ∙ changed-len two next (with_before side.Object (Some place)),
+          ap taken_count fourth ∙ changed-len three first_term (with_before side.Term (Some place)),
         );
         size = record {
-          capacity = ap (λ (t : Places). t.capacity) third ∙ changed-capacity two first_term (with_before side.Term (Some place)) ∙ ap (λ (t : Places). t.capacity) second ∙ changed-capacity one first_object (with_before side.Object (Some place)) ∙ capacity;
-          objects = length-set objects object (Some place);
+          capacity = ap (λ (t : Places). t.capacity) fourth ∙ changed-capacity three first_term (with_before side.Term (Some place)) ∙ ap (λ (t : Places). t.capacity) third ∙ changed-capacity two next (with_before side.Object (Some place)) ∙ ap (λ (t : Places). t.capacity) second ∙ changed-capacity one before (with_next side.Object (Some place)) ∙ capacity;
+          objects = length-heads_without objects object before (Some place);
           terms = length-set terms term (Some place);
         };
       };
+      at = refl;
+      chain = chain_kept (links side.Object three) (links side.Object four) heads object (front ++ place ∷ back) (λ q a. objects_four q)
+          (enters_chain (links side.Object items) (links side.Object three) objects object place before next front back (slice_get_within objects object has.first has.there) has last firsts enters out);
     }
 
 -- ---- more heads, and more room

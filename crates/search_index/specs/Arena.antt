@@ -1,12 +1,11 @@
 -- Scopes, objects and terms under numbers, and the postings between them.
-use Rattle.std.specs.Prelude.{◌≡◌, ◌⊎◌, ◌↔◌, ℕ, ◌+◌, ◌-◌, ◌≤◌, List, [], ◌∷◌, length, min, Some, IsSome, refl}
+use Rattle.std.specs.Prelude.{◌≡◌, ◌⊎◌, ◌↔◌, ℕ, ◌+◌, ◌-◌, ◌≤◌, ◌++◌, List, [], ◌∷◌, length, Option, min, Some, IsSome, refl}
 use Rattle.std.specs.Coded.{Coded, code_by, coded×, coded_list, coded_ℕ}
 use Rattle.search_query.specs.Pair.{Pair}
 use Rattle.search_index.specs.declared.scope.Scope.{Scope}
 use Rattle.search_index.specs.declared.key.ObjectKey.{ObjectKey}
 use Rattle.ordered_keys.specs.Keys.{Keys, IsOnce, Numbers, key_of, keys_code}
-use Rattle.ordered_keys.specs.Numbers.{Among}
-use Rattle.search_index.specs.Net.{Net, Adds, IsOf, IsUnused, Takes, held, net_code, used}
+use Rattle.search_index.specs.Net.{Net, Adds, IsCut, IsListed, IsUnused, Takes, held, net_code, order_of, used}
 use Rattle.search_index.specs.KeyOrder.{TermKey, object_key, term_code}
 
 -- what an index has: scopes, objects and terms under numbers, and the postings between these
@@ -88,11 +87,10 @@ abbrev pub contents_code : Coded Contents
 contents_code = code_by (Keys Scope × (Keys ObjectKey × (Keys TermKey × Net))) (coded× (keys_code scope_code) (coded× (keys_code object_code) (coded× (keys_code term_code) net_code)))
     (λ c. (c.scopes, (c.objects, (c.terms, c.net)))) (λ p. record { scopes = p.0; objects = p.1.0; terms = p.1.1.0; net = p.1.1.1 }) (λ _. refl)
 
--- an object stands under this number, its scope under that, and its postings are in these places
-pub record ArePlaces (c : Contents) (scope : Scope) (name : List ℕ) (number object : ℕ) (places : List ℕ) : Type 0 where
+-- an object stands under this number, and its scope under that
+pub record StandsAt (c : Contents) (scope : Scope) (name : List ℕ) (number object : ℕ) : Type 0 where
   pub scope_at : key_of c.scopes number ≡ Some scope
   pub object_at : key_of c.objects object ≡ Some (object_key number name)
-  pub all : (q : ℕ) → Among places q ↔ IsOf c.net object q
 
 -- a posting's object and term are there, of one scope
 pub record IsJoined (objects : Keys ObjectKey) (terms : Keys TermKey) (i j : ℕ) : Type 0 where
@@ -127,6 +125,12 @@ pub record AddsTerm (terms more : Keys TermKey) (net wider : Net) (object : ℕ)
   pub numbers : Numbers terms more key term
   pub adds : Adds net wider object term
 
+-- the same, and the posting comes behind this place of its object
+pub record AddsBehind (terms more : Keys TermKey) (net wider : Net) (object : ℕ) (key : TermKey) (before place : Option ℕ) : Type 0 where
+  pub first : AddsTerm terms more net wider object key
+  pub at : place ≡ Some first.adds.place
+  pub order : (front back : List ℕ) → IsCut net object before front back → order_of wider object ≡ front ++ first.adds.place ∷ back
+
 -- a term was taken out where no posting is of it
 pub record DropsUnused (terms fewer : Keys TermKey) (net : Net) (term : ℕ) : Type 0 where
   pub kept : (j : ℕ) (y : TermKey) → key_of terms j ≡ Some y → (j ≡ term → IsUnused net term → ⊥) → key_of fewer j ≡ Some y
@@ -140,11 +144,13 @@ pub record DropsFirst (terms fewer : Keys TermKey) (net less : Net) (object : �
   pub takes : Takes net less object term
   pub drops : DropsUnused terms fewer less term
 
--- the posting in a place was taken out, and its term where it was the last
+-- the posting in a place was taken out, and its term where it was the last, and the others of its object are in their order
 pub record DropsAt (terms fewer : Keys TermKey) (net less : Net) (place : ℕ) : Type 0 where
   pub object : ℕ
   pub first : DropsFirst terms fewer net less object
   pub at : first.takes.place ≡ place
+  pub order : (i : ℕ) (front back : List ℕ) → order_of net i ≡ front ++ place ∷ back → order_of less i ≡ front ++ back
+  pub listed : (i : ℕ) → IsListed less i
 
 -- no object is there
 abbrev pub IsEmpty : Contents → Type 0

@@ -8,6 +8,7 @@ pub mod KeyOrder
 pub mod Words
 pub mod Terms
 pub mod Arena
+pub mod Merge
 pub mod Found
 pub mod Names
 pub mod Seeking

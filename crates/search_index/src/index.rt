@@ -1,5 +1,5 @@
 //! The index.
-ghost use Rattle.std.specs.Prelude.{◌≡◌, ◌≢◌, ◌↔◌, ◌+◌, ◌≤◌, ℕ, List, IfOk, IfSome, IsTrue, OnOk, Some, [], length};
+ghost use Rattle.std.specs.Prelude.{◌≡◌, ◌≢◌, ◌↔◌, ◌+◌, ◌≤◌, ℕ, List, IfOk, IsTrue, MatchOption, OnOk, Some, [], length};
 ghost use Rattle.std.specs.Cmp.Lexicographic.{slice_cmp};
 ghost use Rattle.std.specs.List.Sorted.{IsStrictlySortedBy};
 ghost use Rattle.std.specs.Ordering.{nat_cmp};
@@ -7,15 +7,17 @@ ghost use Rattle.search_query.specs.Matching.{Meets};
 ghost use Rattle.search_query.specs.Pair.{Pair};
 ghost use Rattle.search_index.specs.Names.{lists_name};
 ghost use Rattle.search_index.specs.Scope.{scope_at};
-ghost use Rattle.search_index.specs.Arena.{AddsObject, ArePlaces, DropsObject, HasObject, HasRoom, LosesRoom, ReplacesObject, SameObjects};
+ghost use Rattle.search_index.specs.Arena.{AddsObject, DropsObject, HasObject, HasRoom, LosesRoom, ReplacesObject, SameObjects, StandsAt};
 ghost use Rattle.search_index.specs.declared.scope.Scope.{Scope as ScopeKey};
 ghost use Rattle.ordered_keys.specs.Keys.{key_of};
 ghost use Rattle.search_index.specs.declared.key.ObjectKey.{ObjectKey as Key};
 
-use crate::arena::{add, drop_at, drop_first};
+use crate::arena::{add, drop_first};
 use crate::found::Found;
 use crate::key::{ObjectAt, ObjectKey};
+use crate::merge::{drop_rest, settle};
 use crate::names::{in_order, names_of};
+use crate::posting::Place;
 use crate::postings::Postings;
 use crate::scope::{Scope, ScopeAt, Scopes};
 use crate::seek::any;
@@ -37,12 +39,11 @@ pub struct Index {
     postings: Postings,
 }
 
-/// Where an object stands: the numbers of its scope and its own, and the places of its postings.
+/// The numbers under which the scope of an object and the object stand.
 #[derive(Drop)]
-struct OldPlaces {
+struct Standing {
     scope: u32,
     object: usize,
-    places: Vec<usize>,
 }
 
 impl Model for Index {
@@ -114,8 +115,8 @@ impl Index {
         }
     }
 
-    /// Puts in an object with its pairs, in the place of the one that is there, if it is. It can't fail: where there is
-    /// memory for a list of the object's postings, the terms that it keeps stay where they are, which costs less.
+    /// Puts in an object with its pairs, in the place of the one that is there, if it is. It takes no memory. The pairs that
+    /// the object keeps stay where they are, so it costs what differs, and a look at each pair.
     pub fn replace(&mut self, scope: Scope, name: Text, pairs: Pairs)
         requires room { HasRoom self.old 1 (length pairs) (length pairs) }
         ensures replaces { ReplacesObject self.old self.new scope name pairs }
@@ -125,18 +126,15 @@ impl Index {
             org: &scope.org,
             index: &scope.index,
         };
-        match self.old_places(at, &name) {
-            Some(old) => self.change(old, pairs),
-            None => {
-                self.remove(at, &name);
-                self.insert(scope, name, pairs);
-            }
+        match self.standing(at, &name) {
+            Some(standing) => self.change(standing, pairs),
+            None => self.insert(scope, name, pairs),
         }
     }
 
-    /// Where an object stands, if it is there and there is memory for the list of its postings.
-    fn old_places(&self, scope: ScopeAt, name: &Text) -> Option<OldPlaces>
-        ensures { IfSome result (λ old. ArePlaces self.now (scope_at scope.entry) name.now old.scope old.object old.places.items) }
+    /// Where an object stands, if it is there.
+    fn standing(&self, scope: ScopeAt, name: &Text) -> Option<Standing>
+        ensures { MatchOption result (HasObject self.now (scope_at scope.entry) name.now → ⊥) (λ at. StandsAt self.now (scope_at scope.entry) name.now at.scope at.object) }
     {
         let Some(number) = self.scopes.find(&scope) else {
             return None;
@@ -145,39 +143,38 @@ impl Index {
             scope: number,
             name: name.as_bytes(),
         };
-        let Some(object) = self.objects.find(&sought) else {
-            return None;
-        };
-        match self.postings.places_of(object) {
-            Ok(places) => Some(OldPlaces {
+        match self.objects.find(&sought) {
+            Some(object) => Some(Standing {
                 scope: number,
                 object,
-                places,
             }),
-            Err(NoMemory) => None,
+            None => None,
         }
     }
 
-    /// Gives an object its new pairs, and then takes out its old postings.
-    fn change(&mut self, old: OldPlaces, pairs: Pairs)
-        requires places { (scope : ScopeKey) × (name : List ℕ) × ArePlaces self.old scope name old.scope old.object old.places.items }
+    /// Gives an object its new pairs in place of those that it has: the new ones are settled in their order, from the first
+    /// on, along the chain of the object.
+    fn change(&mut self, standing: Standing, pairs: Pairs)
+        requires stands { (scope : ScopeKey) × (name : List ℕ) × StandsAt self.old scope name standing.scope standing.object }
         requires room { HasRoom self.old 1 (length pairs) (length pairs) }
-        ensures replaces { (scope : ScopeKey) (name : List ℕ) → ArePlaces self.old scope name old.scope old.object old.places.items → ReplacesObject self.old self.new scope name pairs }
+        ensures replaces { (scope : ScopeKey) (name : List ℕ) → StandsAt self.old scope name standing.scope standing.object → ReplacesObject self.old self.new scope name pairs }
         ensures room { LosesRoom self.old self.new 1 (length pairs) (length pairs) }
     {
-        let OldPlaces {
-            scope,
-            object,
-            places,
-        } = old;
+        let Standing { scope, object } = standing;
         let mut left = pairs.into_vec();
+        left.reverse();
+        let mut before = Place::none();
         while let Some(pair) = left.pop() {
-            add(&mut self.terms, &mut self.postings, object, scope, pair);
+            before = settle(
+                &mut self.terms,
+                &mut self.postings,
+                scope,
+                object,
+                pair,
+                before,
+            );
         }
-        let mut places = places;
-        while let Some(place) = places.pop() {
-            drop_at(&mut self.terms, &mut self.postings, place);
-        }
+        drop_rest(&mut self.terms, &mut self.postings, object, before);
     }
 
     /// Takes out an object with its pairs, where it is there. It takes no memory.

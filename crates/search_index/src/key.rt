@@ -7,6 +7,7 @@ ghost use Rattle.search_index.specs.KeyOrder.{object_cmp, object_cmp_total, obje
 
 use doc_tree::Text;
 use ordered_keys::Probe;
+use search_query::Pair;
 use std::cmp::Ordering;
 
 /// Scopes, terms and words have no more numbers than this, so that each fits into 32 bits and 2^32 - 1 is none.
@@ -104,6 +105,17 @@ impl<'a> TermAt<'a> {
             Ordering::Equal => self.pair_order_to(other),
             Ordering::Greater => Ordering::Greater,
         }
+    }
+
+    /// How its pair stands to another: by the bytes of the fields, and then of the values.
+    pub(crate) fn order_to_pair(&self, pair: &Pair) -> Ordering
+        ensures { result ≡ pair_cmp (term_at self.now).pair pair.now }
+    {
+        self.pair_order_to(&TermAt {
+            scope: self.scope,
+            field: pair.field(),
+            value: pair.value(),
+        })
     }
 
     fn pair_order_to(&self, other: &TermAt) -> Ordering

@@ -7,6 +7,7 @@ mod fields;
 mod found;
 mod index;
 mod key;
+mod merge;
 mod names;
 mod places;
 mod posting;

@@ -1,10 +1,10 @@
 //! Postings in one arena: each stands in the chain of its object and in that of its term.
-ghost use Rattle.std.specs.Prelude.{◌≡◌, ◌+◌, ◌<◌, ◌≤◌, ◌↔◌, ℕ, IfOk, IsSome, IsTrue, OnOk, MatchOption, None, [], length, slice_index_or};
+ghost use Rattle.std.specs.Prelude.{◌≡◌, ◌+◌, ◌<◌, ◌≤◌, ◌↔◌, ℕ, List, IfOk, IsSome, IsTrue, OnOk, MatchOption, None, Some, [], length, slice_index_or};
 ghost use Rattle.search_index.specs.Place.{no_number};
 ghost use Rattle.search_index.specs.Places.{IsTaken};
 ghost use Rattle.ordered_keys.specs.Numbers.{Among};
-ghost use Rattle.search_index.specs.Chains.{IsLinked};
-ghost use Rattle.search_index.specs.Net.{Adds, Has, HasNone, IsOf, IsUnused, IsWide, Leads, Pads, Takes, TakesAt, Unlinks, Widens, changed_at, heads_without, held, links, owners, pairs, used};
+ghost use Rattle.search_index.specs.Chains.{IsLinked, first_in};
+ghost use Rattle.search_index.specs.Net.{AddsAt, Has, HasNone, IsBehind, IsCut, IsListed, IsUnused, IsWide, Leads, Pads, Takes, TakesAt, Unlinks, Widens, changed_at, heads_without, held, links, owners, pairs, place_behind, used};
 ghost use Rattle.search_index.specs.Posting.{with_before, with_next};
 
 use crate::places::Places;
@@ -41,7 +41,7 @@ impl Model for Postings {
 impl Postings {
     /// No posting, and no room.
     pub(crate) fn none(alloc: Global) -> Postings
-        ensures { result ≡ record { slots = []; capacity = 0; objects = 0; terms = 0 } }
+        ensures { result ≡ record { slots = []; capacity = 0; objects = 0; terms = 0; order = [] } }
     {
         Postings {
             items: Places::none(alloc),
@@ -67,32 +67,33 @@ impl Postings {
         Ok(())
     }
 
-    /// Puts in that an object has a term.
-    pub(crate) fn join(&mut self, object: usize, term: usize)
+    /// Puts in that an object has a term: behind this place in the chain of the object, or in front where that is none. It
+    /// tells the place of the posting.
+    pub(crate) fn join_behind(&mut self, object: usize, term: usize, before: Place) -> Place
         requires object { object < self.old.objects }
         requires term { term < self.old.terms }
         requires room { used self.old + 1 ≤ self.old.capacity }
-        ensures { Adds self.old self.new object term }
+        requires before { IsBehind self.old object before }
+        ensures { AddsAt self.old self.new object term before result }
     {
-        let of_object = self.objects[object];
+        let next = place_behind(&self.items, &self.objects, object, before);
         let of_term = self.terms[term];
         let place = self.items.put(Posting {
             object: object as u32,
             term: term as u32,
-            of_object: Link {
-                before: Place::none(),
-                next: of_object,
-            },
+            of_object: Link { before, next },
             of_term: Link {
                 before: Place::none(),
                 next: of_term,
             },
         });
         let here = Place::at(place);
-        set_before(&mut self.items, Side::Object, of_object, here);
+        set_next(&mut self.items, Side::Object, before, here);
+        set_before(&mut self.items, Side::Object, next, here);
         set_before(&mut self.items, Side::Term, of_term, here);
-        self.objects[object] = here;
+        set_head(&mut self.objects, object, before, here);
         self.terms[term] = here;
+        here
     }
 
     /// Takes a posting of an object out, and gives its term, or nothing where the object has none.
@@ -117,24 +118,20 @@ impl Postings {
         term
     }
 
-    /// Whether a posting is in a place.
-    pub(crate) fn is_taken(&self, place: usize) -> bool
-        ensures { IsTrue result ↔ IsSome (held self.now place) }
+    /// The place behind another in the chain of an object, or the first place where that is none.
+    pub(crate) fn after(&self, object: usize, before: Place) -> Place
+        ensures next { (front back : List ℕ) → IsCut self.now object before front back → result ≡ first_in back }
+        ensures listed { IsListed self.now object }
     {
-        self.items.get(place).is_some()
+        place_behind(&self.items, &self.objects, object, before)
     }
 
-    /// The places of the postings of an object, in the order of its chain.
-    pub(crate) fn places_of(&self, object: usize) -> Result<Vec<usize>, NoMemory>
-        ensures { IfOk result (λ found. (q : ℕ) → Among found.items q ↔ IsOf self.now object q) }
+    /// The term of the posting in a place.
+    pub(crate) fn term_at(&self, place: usize) -> usize
+        requires { IsSome (held self.now place) }
+        ensures { (object : ℕ) × (held self.now place ≡ Some (object, result)) }
     {
-        let mut found = Vec::new(*self.objects.allocator());
-        let mut at = first_of(&self.objects, object);
-        while let Some(place) = at {
-            found.push(place)?;
-            at = self.items.posting(place).of_object.next.get();
-        }
-        Ok(found)
+        self.items.posting(place).term as usize
     }
 
     /// Whether no object has a term.
@@ -266,6 +263,22 @@ fn first_of(heads: &[Place], owner: usize) -> Option<usize>
     }
 }
 
+/// The place behind another in the chain of an object, or the first place where that is none.
+fn place_behind(items: &Places, objects: &[Place], object: usize, before: Place) -> Place
+    ensures { result ≡ place_behind items.now objects.now object before }
+{
+    match before.get() {
+        Some(place) => match items.get(place) {
+            Some(posting) => posting.of_object.next,
+            None => Place::none(),
+        },
+        None => match objects.get(object) {
+            Some(first) => *first,
+            None => Place::none(),
+        },
+    }
+}
+
 /// Puts a place behind another, if there is one.
 fn set_next(items: &mut Places, side: Side, place: Place, next: Place)
     ensures { items.new ≡ changed_at items.old place (with_next side next) }
@@ -290,13 +303,13 @@ fn set_before(items: &mut Places, side: Side, place: Place, before: Place)
     }
 }
 
-/// Lets a chain begin with what stood behind its first place, where it is that which goes.
-fn set_head(heads: &mut Vec<Place>, owner: usize, before: Place, next: Place)
+/// Lets a chain begin with a place, where nothing stands before that.
+fn set_head(heads: &mut Vec<Place>, owner: usize, before: Place, first: Place)
     requires { owner < length heads.old.items }
-    ensures { heads.new.items ≡ heads_without heads.old.items owner before next }
+    ensures { heads.new.items ≡ heads_without heads.old.items owner before first }
 {
     if before.get().is_none() {
-        heads[owner] = next;
+        heads[owner] = first;
     }
 }
 

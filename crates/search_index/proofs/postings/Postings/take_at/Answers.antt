@@ -1,7 +1,8 @@
 -- A posting is out of both chains.
-use Rattle.std.proofs.Common.{IsSome, arith, subst, sym}
+use Rattle.std.proofs.Common.{◌++◌, IsSome, arith, subst, sym}
 use Rattle.search_index.specs.Net.{TakesAt, held, net_of}
 use Rattle.search_index.specs.declared.posting.Side.TheVariants as side
+use Rattle.search_index.proofs.ListedLemmas.{listed, order_is, place_chain}
 use Rattle.search_index.proofs.NetLemmas.{IsTaken, kept_side, taken}
 use Rattle.search_index.proofs.PlaceLemmas.{place_there}
 use Rattle.search_index.proofs.postings.Postings.take_at.Goals as goal
@@ -26,4 +27,11 @@ invariant_of-self c = record {
 pub returns : goal.returns
 returns c =
     let now = net_of c.remove.new.self c.unlink-2.new.heads.items c.unlink.new.heads.items in
-    subst (λ n. TakesAt n now c.args.place c.posting.result.now.term) c.self.view_is (record { object = c.posting.result.now.object; takes = (took c).takes; at = (took c).at })
+    subst (λ n. TakesAt n now c.args.place c.posting.result.now.term) c.self.view_is (record {
+      object = c.posting.result.now.object;
+      takes = (took c).takes;
+      at = (took c).at;
+      order = λ i front back told. order_is c.remove.new.self c.unlink-2.new.heads.items c.unlink.new.heads.items i (front ++ back) (took c).sound
+          ((took c).chain i front back (place_chain c.self.inside.items c.self.inside.objects.items c.self.inside.terms.items i c.args.place front back c.self.invariant.sound told));
+      listed = λ i. listed c.remove.new.self c.unlink-2.new.heads.items c.unlink.new.heads.items i (took c).sound;
+    })
