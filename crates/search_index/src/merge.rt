@@ -58,12 +58,7 @@ fn drop_less(
 }
 
 /// Takes out the postings behind a place.
-pub(crate) fn drop_rest(
-    terms: &mut Terms,
-    postings: &mut Postings,
-    object: usize,
-    before: Place,
-)
+pub(crate) fn drop_rest(terms: &mut Terms, postings: &mut Postings, object: usize, before: Place)
     requires { (was : Start) × (scope : ℕ) × (left : List specs.Pair) × Merges was terms.old postings.old scope object left before }
     ensures merges { (was : Start) (scope : ℕ) (left : List specs.Pair) → Merges was terms.old postings.old scope object left before → Merges was terms.new postings.new scope object left before }
     ensures all { HasAll postings.new object before }
