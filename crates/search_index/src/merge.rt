@@ -4,7 +4,7 @@ ghost use Rattle.std.specs.Prelude.{◌≡◌, ◌++◌, ◌∷◌, ℕ, List, I
 ghost use Rattle.search_query.specs.Pair.{pair_cmp};
 ghost use Rattle.search_query.specs.Pair as specs;
 ghost use Rattle.ordered_keys.specs.Keys.{key_of};
-ghost use Rattle.search_index.specs.Merge.{HasAll, HasNext, Merges, Start};
+ghost use Rattle.search_index.specs.Merge.{HasAll, HasNext, Merges, Start, pair_in};
 ghost use Rattle.search_index.specs.declared.key.TermKey.{TermKey as Key};
 
 use crate::arena::{add_behind, drop_at};
@@ -77,7 +77,7 @@ pub(crate) fn drop_rest(
 /// How the pair of a term stands to another.
 fn order_of(terms: &Ordered<TermKey>, number: usize, pair: &Pair) -> Ordering
     requires { IsSome (key_of terms.now number) }
-    ensures { (y : Key) → key_of terms.now number ≡ Some y → result ≡ pair_cmp y.pair pair.now }
+    ensures { (y : Key) → key_of terms.now number ≡ Some y → result ≡ pair_cmp (pair_in y) pair.now }
 {
     terms.key(number).pair.cmp(pair)
 }
