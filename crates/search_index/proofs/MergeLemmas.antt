@@ -371,7 +371,7 @@ replaced old now scope number object name given pairs turned left before whole s
           let number_same : j ≡ own.0 = (both i j object own.0 (sym posting ∙ own.2)).1 in
           let key : key_of now.terms j ≡ Some (term_of number own.1) = ap (key_of now.terms) number_same ∙ own.3 in
           let same : term_of a p ≡ term_of number own.1 = cc in
-          let pair : own.1 ≡ p = sym (ap (λ (k : TermKey). k.pair) same) in
+          let pair : own.1 ≡ p = sym (ap pair_in same) in
           inr (names.0, names.1, (members p).0 (subst (λ z. Member z p) (sym done) (subst (λ z. Member m.done z) pair own.4)))
       | inr differs ↦
           let before = m.others_from q i j differs posting in
