@@ -8,8 +8,8 @@ use Rattle.ordered_keys.specs.Keys.{Keys, IsAbsent, IsAt, Removes, key_of}
 use Rattle.search_index.specs.KeyOrder.{TermKey, object_cmp, object_cmp_total, object_key}
 use Rattle.search_index.specs.Scope.{scope_cmp, scope_cmp_total}
 use Rattle.search_index.specs.Net.{Net, HasNone, IsUnused, Widens, held, used}
-use Rattle.search_index.specs.Arena.{Contents, HasObject, LosesRoom, DropsObject, SameObjects, IsTied, IsWhole, DropsFirst}
-use Rattle.search_index.proofs.EqualKeys.{same_scopes, same_objects}
+use Rattle.search_index.specs.Arena.{StandsAt, Contents, HasObject, LosesRoom, DropsObject, SameObjects, IsTied, IsWhole, DropsFirst}
+use Rattle.search_index.proofs.EqualKeys.{same_scopes}
 use Rattle.search_index.proofs.GivenLemmas.{term_of}
 use Rattle.search_index.proofs.NetLemmas.{cases_option}
 
@@ -108,9 +108,9 @@ pub record IsTakenOut (old new : Contents) (scope : Scope) (name : List ℕ) : T
   pub room : LosesRoom old new 0 0 0
 
 pub gone_all : (was now : Contents) (scopes : Keys Scope) (objects : Keys ObjectKey) (scope : Scope) (number object : ℕ) (name : List ℕ) → IsWhole was → Remains was now object → HasNone now.net object
-    → IsAt scope_cmp was.scopes scope number → IsAt object_cmp was.objects (object_key number name) object → Removes was.objects objects object → KeepsScopes was.scopes scopes objects
+    → StandsAt was scope name number object → Removes was.objects objects object → KeepsScopes was.scopes scopes objects
     → IsTakenOut was (record { scopes = scopes; objects = objects; terms = now.terms; net = now.net }) scope name
-gone_all was now scopes objects scope number object name whole r none at_scope at_object removes keeps = record {
+gone_all was now scopes objects scope number object name whole r none stands removes keeps = record {
   whole = record {
     tied = record {
       joined = λ q i j is.
@@ -169,10 +169,10 @@ gone_all was now scopes objects scope number object name whole r none at_scope a
     out i x is e = let gone : key_of objects i ≡ None = ap (key_of objects) e ∙ removes.gone in absurd (cc)
 
     scope_is : key_of was.scopes number ≡ Some scope
-    scope_is = at_scope.there ∙ ap Some (same_scopes at_scope.key scope at_scope.equal)
+    scope_is = stands.scope_at
 
     object_is : key_of was.objects object ≡ Some (object_key number name)
-    object_is = at_object.there ∙ ap Some (same_objects at_object.key (object_key number name) at_object.equal)
+    object_is = stands.object_at
 
     is_mine : (s : Scope) (n : List ℕ) (a i : ℕ) → key_of was.scopes a ≡ Some s → key_of was.objects i ≡ Some (object_key a n) → s ≡ scope → n ≡ name → i ≡ object
     is_mine s n a i at is e f =

@@ -14,7 +14,7 @@ use Rattle.search_index.specs.Chains.{first_in, last_from}
 use Rattle.search_index.specs.KeyOrder.{TermKey, object_key}
 use Rattle.search_index.specs.Net.{IsBehind, IsCut, IsListed, IsOf, Net, held, order_of, used}
 use Rattle.search_index.specs.Arena.{AddsBehind, AddsObject, Contents, DropsAt, DropsFirst, HasObject, Holds, IsTied, IsWhole, LosesRoom, Member, ReplacesObject, StandsAt}
-use Rattle.search_index.specs.Merge.{HasAll, HasNext, Merges, Start}
+use Rattle.search_index.specs.Merge.{HasAll, HasNext, Merges, Start, pair_in}
 use Rattle.search_index.proofs.EqualKeys.{same_pairs}
 use Rattle.search_index.proofs.PlaceLemmas.{one_object}
 use Rattle.search_index.proofs.GivenLemmas.{term_of, tied_adds}
@@ -74,13 +74,13 @@ next_first net object before next front back place told e cut = sym (told front 
 
 -- an equal pair comes next
 pub has_next : (was : Start) (terms : Keys TermKey) (net : Net) (number object : ℕ) (left : List Pair) (before next : Option ℕ) (place i j : ℕ) (p : Pair) (order : Ordering) → Merges was terms net number object left before
-    → ((front back : List ℕ) → IsCut net object before front back → next ≡ first_in back) → next ≡ Some place → IsListed net object → held net place ≡ Some (i, j) → ((y : TermKey) → key_of terms j ≡ Some y → order ≡ pair_cmp y.pair p) → order ≡ Equal → HasNext terms net object before p
+    → ((front back : List ℕ) → IsCut net object before front back → next ≡ first_in back) → next ≡ Some place → IsListed net object → held net place ≡ Some (i, j) → ((y : TermKey) → key_of terms j ≡ Some y → order ≡ pair_cmp (pair_in y) p) → order ≡ Equal → HasNext terms net object before p
 has_next was terms net number object left before next place i j p order m told e listed is orders equal front back cut =
     let first = next_first net object before next front back place told e cut in
     let own = next_held net object before front back place cut first listed in
     let same : i ≡ object = one_object net place i j object own.0 is own.1 in
     let tie = m.tied.joined place i j is in
-    (place, j, tie.term, first, is ∙ ap (λ z. Some (z, j)) same, tie.term_at, same_pairs tie.term.pair p (sym (orders tie.term tie.term_at) ∙ equal))
+    (place, j, tie.term, first, is ∙ ap (λ z. Some (z, j)) same, tie.term_at, same_pairs (pair_in tie.term) p (sym (orders tie.term tie.term_at) ∙ equal))
 
 -- nothing comes next
 pub has_all : (net : Net) (object : ℕ) (before next : Option ℕ) → ((front back : List ℕ) → IsCut net object before front back → next ≡ first_in back) → next ≡ None → IsListed net object → HasAll net object before
@@ -155,7 +155,7 @@ merges_drop was terms fewer net less number object left before place m e listed 
 -- ---- a posting stays
 
 pub merges_keep : (was : Start) (terms : Keys TermKey) (net : Net) (number object : ℕ) (left : List Pair) (p : Pair) (before : Option ℕ) (place j : ℕ) (y : TermKey) → (m : Merges was terms net number object (left ++ p ∷ []) before)
-    → first_in m.back ≡ Some place → held net place ≡ Some (object, j) → key_of terms j ≡ Some y → y.pair ≡ p → Merges was terms net number object left (Some place)
+    → first_in m.back ≡ Some place → held net place ≡ Some (object, j) → key_of terms j ≡ Some y → pair_in y ≡ p → Merges was terms net number object left (Some place)
 merges_keep was terms net number object left p before place j y m e is at same = record {
   done = p ∷ m.done;
   parts = m.parts ∙ append_assoc left (p ∷ []) m.done;
@@ -196,7 +196,7 @@ merges_keep was terms net number object left p before place j y m e is at same =
         let term_at = tie.term_at in
         let term_is : tie.term ≡ y = cc in
         let scope : y.scope ≡ number = ap (λ (k : TermKey). k.scope) (sym term_is) ∙ sym tie.scope ∙ ap (λ (k : ObjectKey). k.scope) object_is in
-        at ∙ ap (λ z. Some (term_of z y.pair)) scope ∙ ap (λ z. Some (term_of number z)) same
+        at ∙ ap (λ z. Some (term_of z (pair_in y))) scope ∙ ap (λ z. Some (term_of number z)) same
 
 -- ---- a posting comes
 
@@ -370,7 +370,7 @@ replaced old now scope number object name given pairs turned left before whole s
           let number_same : j ≡ own.0 = (both i j object own.0 (sym posting ∙ own.2)).1 in
           let key : key_of now.terms j ≡ Some (term_of number own.1) = ap (key_of now.terms) number_same ∙ own.3 in
           let same : term_of a p ≡ term_of number own.1 = cc in
-          let pair : own.1 ≡ p = sym (ap (λ (k : TermKey). k.pair) same) in
+          let pair : own.1 ≡ p = sym (ap pair_in same) in
           inr (names.0, names.1, (members p).0 (subst (λ z. Member z p) (sym done) (subst (λ z. Member m.done z) pair own.4)))
       | inr differs ↦
           let before = m.others_from q i j differs posting in

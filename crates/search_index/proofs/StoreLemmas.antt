@@ -76,10 +76,6 @@ free_set xs place z (suc n) first off (a, x, e, at, free, rest) =
     let other : a ≢ place = λ same. off n (omega arith) (a, x, ap Some (sym same), at, free, rest) in
     (a, x, e, slice_get-set_other xs place a z other ∙ at, free, free_set xs place z n x.of_object.next (λ m below. off m (omega arith)) rest)
 
--- and so does one more place at the end
-pub free_push : (xs : List Posting) (z : Posting) (first : Option ℕ) → IsFreeList xs 0 first → IsFreeList (xs ++ z ∷ []) 0 first
-free_push xs z first p = p
-
 -- a taken place is in no such list
 pub taken_is_off : (xs : List Posting) (place : ℕ) (x : Posting) → slice_get xs place ≡ Some x → x.object ≢ no_number → (m : ℕ) → IsFreeList xs (suc m) (Some place) → ⊥
 taken_is_off xs place x at taken m (a, y, e, there, free, rest) =
@@ -116,15 +112,15 @@ stored_remove xs taken free place old new stored found was is next =
       numbered = omega (arith, stored.numbered, length-set xs place new);
     }
 
-pub record Frees (xs : List Posting) (taken : ℕ) (free : Option ℕ) (place : ℕ) : Type 0 where
+pub record IsFirstFree (xs : List Posting) (taken : ℕ) (free : Option ℕ) (place : ℕ) : Type 0 where
   pub posting : Posting
   pub there : slice_get xs place ≡ Some posting
   pub is_free : posting.object ≡ no_number
 
-pub first_free : (xs : List Posting) (taken : ℕ) (free : Option ℕ) (place : ℕ) → IsStored xs taken free → free ≡ Some place → Frees xs taken free place
+pub first_free : (xs : List Posting) (taken : ℕ) (free : Option ℕ) (place : ℕ) → IsStored xs taken free → free ≡ Some place → IsFirstFree xs taken free place
 first_free xs taken free place stored e = by_count stored.vacant stored.linked
   where
-    by_count : (n : ℕ) → IsFreeList xs n free → Frees xs taken free place
+    by_count : (n : ℕ) → IsFreeList xs n free → IsFirstFree xs taken free place
     by_count zero none = absurd (cc)
     by_count (suc n) (a, x, f, at, is, rest) = let same : place ≡ a = cc in record { posting = x; there = ap (slice_get xs) same ∙ at; is_free = is }
 
@@ -213,11 +209,11 @@ pushes xs capacity new is =
     other_read (z ∷ ys) y (suc k) differs = other_read ys y k (λ e. differs (ap suc e))
 
 -- a posting was taken out
-pub record Frees_up (old new : Places) (place : ℕ) : Type 0 where
+pub record Frees (old new : Places) (place : ℕ) : Type 0 where
   pub updates : Updates old new place None
   pub count : taken_count new + 1 ≡ taken_count old
 
-pub frees : (xs : List Posting) (capacity place : ℕ) (old new : Posting) → slice_get xs place ≡ Some old → old.object ≢ no_number → new.object ≡ no_number → Frees_up (places_of xs capacity) (places_of (set xs place new) capacity) place
+pub frees : (xs : List Posting) (capacity place : ℕ) (old new : Posting) → slice_get xs place ≡ Some old → old.object ≢ no_number → new.object ≡ no_number → Frees (places_of xs capacity) (places_of (set xs place new) capacity) place
 frees xs capacity place old new found was is =
     record {
       updates = updates_set (places_of xs capacity) (places_of (set xs place new) capacity) place None (omega (arith, slice_get_within xs place old found, length-map xs value_of)) (map-set value_of xs place new ∙ ap (set (map value_of xs) place) (value_free new is));

@@ -9,6 +9,14 @@ use Rattle.search_index.specs.KeyOrder.{TermKey, object_key}
 use Rattle.search_index.specs.Net.{IsCut, IsOf, Net, held, used}
 use Rattle.search_index.specs.Arena.{IsTied, Member}
 
+-- the term of a pair in a scope
+abbrev pub term_of_pair : ℕ → Pair → TermKey
+term_of_pair scope p = record { scope = scope; pair = p }
+
+-- the pair of a term
+abbrev pub pair_in : TermKey → Pair
+pair_in y = y.pair
+
 -- what stood before: the keys and the postings, and the name and the new pairs of the object, the last of which comes first
 pub record Start : Type 0 where
   pub objects : Keys ObjectKey
@@ -29,8 +37,8 @@ pub record Merges (was : Start) (terms : Keys TermKey) (net : Net) (number objec
   pub others_kept : (q i j : ℕ) → i ≢ object → held was.net q ≡ Some (i, j) → held net q ≡ Some (i, j)
   pub others_from : (q i j : ℕ) → i ≢ object → held net q ≡ Some (i, j) → held was.net q ≡ Some (i, j)
   pub terms_kept : (q i j : ℕ) (y : TermKey) → i ≢ object → held was.net q ≡ Some (i, j) → key_of was.terms j ≡ Some y → key_of terms j ≡ Some y
-  pub given : (p : Pair) → Member done p → (q j : ℕ) × Among front q × (held net q ≡ Some (object, j)) × (key_of terms j ≡ Some (record { scope = number; pair = p }))
-  pub only : (q : ℕ) → Among front q → (j : ℕ) × (p : Pair) × (held net q ≡ Some (object, j)) × (key_of terms j ≡ Some (record { scope = number; pair = p })) × Member done p
+  pub given : (p : Pair) → Member done p → (q j : ℕ) × Among front q × (held net q ≡ Some (object, j)) × (key_of terms j ≡ Some (term_of_pair number p))
+  pub only : (q : ℕ) → Among front q → (j : ℕ) × (p : Pair) × (held net q ≡ Some (object, j)) × (key_of terms j ≡ Some (term_of_pair number p)) × Member done p
   pub used_is : used net ≤ used was.net + length done
   pub capacity : net.capacity ≡ was.net.capacity
   pub room : was.terms.room ≤ terms.room + length done
@@ -39,7 +47,7 @@ pub record Merges (was : Start) (terms : Keys TermKey) (net : Net) (number objec
 
 -- the posting behind a place is the object's with this pair
 abbrev pub HasNext : Keys TermKey → Net → ℕ → Option ℕ → Pair → Type 0
-HasNext terms net object before p = (front back : List ℕ) → IsCut net object before front back → (place j : ℕ) × (y : TermKey) × (first_in back ≡ Some place) × (held net place ≡ Some (object, j)) × (key_of terms j ≡ Some y) × (y.pair ≡ p)
+HasNext terms net object before p = (front back : List ℕ) → IsCut net object before front back → (place j : ℕ) × (y : TermKey) × (first_in back ≡ Some place) × (held net place ≡ Some (object, j)) × (key_of terms j ≡ Some y) × (pair_in y ≡ p)
 
 -- no posting of the object stands behind a place
 abbrev pub HasAll : Net → ℕ → Option ℕ → Type 0

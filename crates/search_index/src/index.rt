@@ -182,20 +182,13 @@ impl Index {
         ensures drops { DropsObject self.old self.new (scope_at scope.entry) name.now }
         ensures room { LosesRoom self.old self.new 0 0 0 }
     {
-        let Some(number) = self.scopes.find(&scope) else {
+        let Some(at) = self.standing(scope, name) else {
             return;
         };
-        let sought = ObjectAt {
-            scope: number,
-            name: name.as_bytes(),
-        };
-        let Some(object) = self.objects.find(&sought) else {
-            return;
-        };
-        while drop_first(&mut self.terms, &mut self.postings, object) {}
-        self.objects.remove(object);
-        if is_empty(&self.objects, number) {
-            self.scopes.remove(number);
+        while drop_first(&mut self.terms, &mut self.postings, at.object) {}
+        self.objects.remove(at.object);
+        if is_empty(&self.objects, at.scope) {
+            self.scopes.remove(at.scope);
         }
     }
 }

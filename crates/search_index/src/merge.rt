@@ -5,7 +5,7 @@ ghost use Rattle.search_query.specs.Pair.{pair_cmp};
 ghost use Rattle.search_query.specs.Pair as specs;
 ghost use Rattle.ordered_keys.specs.Keys.{key_of};
 ghost use Rattle.search_index.specs.KeyOrder.{TermKey};
-ghost use Rattle.search_index.specs.Merge.{HasAll, HasNext, Merges, Start};
+ghost use Rattle.search_index.specs.Merge.{HasAll, HasNext, Merges, Start, pair_in};
 
 use crate::arena::{add_behind, drop_at};
 use crate::posting::Place;
@@ -71,7 +71,7 @@ pub(crate) fn drop_rest(terms: &mut Terms, postings: &mut Postings, object: usiz
 /// How the pair of a term stands to another.
 fn order_of(terms: &Terms, number: usize, pair: &Pair) -> Ordering
     requires { IsSome (key_of terms.now number) }
-    ensures { (y : TermKey) → key_of terms.now number ≡ Some y → result ≡ pair_cmp y.pair pair.now }
+    ensures { (y : TermKey) → key_of terms.now number ≡ Some y → result ≡ pair_cmp (pair_in y) pair.now }
 {
     match terms.get(number) {
         Some(term) => term.order_to_pair(pair),

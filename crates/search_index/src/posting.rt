@@ -4,6 +4,7 @@ ghost use Rattle.search_index.specs.Place.{no_number};
 ghost use Rattle.search_index.specs.Posting.{link_of, other_side, owner_of, with_before, with_link, with_next};
 
 use std::marker::Model;
+use std::mem::size_of;
 
 /// The number that stands for no place, no object and no term.
 pub(crate) const NONE: u32 = u32::MAX;
@@ -93,6 +94,9 @@ pub(crate) struct Posting {
     pub(crate) of_object: Link,
     pub(crate) of_term: Link,
 }
+
+// A site has millions of them.
+const _: () = prove!(size_of::<Posting>() == 24);
 
 impl Posting {
     /// What stands in a free place: it has no object, and leads to the next free place.

@@ -14,7 +14,7 @@ use std::alloc::Global;
 use std::marker::Model;
 
 /// Postings, each in the chain of its object and in that of its term. Contracts see the object and the term in each
-/// place, and no link.
+/// place, and the places of each object in the order of its chain, but no link.
 #[derive(Drop)]
 pub(crate) struct Postings {
     items: Places,
