@@ -1,6 +1,6 @@
 //! The routes of access lists.
 
-ghost use Rattle.std.specs.Prelude.{◌≡◌, Ok, Some, IfOk, option_copied};
+ghost use Rattle.std.specs.Prelude.{◌≡◌, Ok, Some, IfOk};
 ghost use Rattle.access_lists.specs.Strangers.{first_stranger};
 ghost use Rattle.doc_tree.specs.Name.{is_name};
 ghost use Rattle.doc_tree.specs.Tree.{doc_of};
@@ -12,7 +12,7 @@ ghost use Rattle.access_routes.specs.AccessLists as spec;
 ghost use Rattle.access_routes.specs.AccessRules as rules;
 
 use crate::operations::AccessOperation;
-use access_lists::{Acl, AclFault, Entry, Perm, Stranger, acl_tree, read_acl};
+use access_lists::{Acl, AclAt, AclFault, Entry, Perm, Stranger, acl_tree, read_acl};
 use doc_tree::{Fields, Kind, NoMemory, Text, Tree, is_name};
 use object_store::Key;
 use org_core::{
@@ -181,8 +181,8 @@ pub(crate) fn show(alloc: Global, context: Context<'_>, key: Key) -> Result<Prep
     or_stop(prepared_showing(alloc, tree))
 }
 
-fn list_tree(alloc: Global, list: Option<&Acl>) -> Result<Tree, NoMemory>
-    ensures { IfOk result (λ tree. doc_of tree ≡ spec.list_doc (option_copied list.entry)) }
+fn list_tree(alloc: Global, list: Option<AclAt<'_>>) -> Result<Tree, NoMemory>
+    ensures { IfOk result (λ tree. doc_of tree ≡ spec.list_doc list.entry) }
 {
     match list {
         Some(list) => acl_tree(alloc, list),
@@ -216,7 +216,7 @@ fn entry_moves(
 {
     match state.acl(&key) {
         Some(list) => {
-            let list = with_entry(alloc, list, permission, entry)?;
+            let list = with_entry(alloc, &list, permission, entry)?;
             one_move(alloc, Move::PutList(key, list))
         }
         None => {
@@ -227,7 +227,12 @@ fn entry_moves(
 }
 
 /// A copy of a list with another entry for one permission.
-fn with_entry(alloc: Global, list: &Acl, permission: Perm, entry: Entry) -> Result<Acl, NoMemory>
+fn with_entry(
+    alloc: Global,
+    list: &AclAt<'_>,
+    permission: Perm,
+    entry: Entry,
+) -> Result<Acl, NoMemory>
     ensures { IfOk result (λ changed. changed ≡ spec.with_entry permission entry list.now) }
 {
     match list.copy(alloc) {

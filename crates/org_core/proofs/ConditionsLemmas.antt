@@ -10,6 +10,7 @@ use Rattle.membership.specs.Members.{Members, Membership, no_members}
 use Rattle.membership.specs.StartingGroups.{is_starting_group}
 use Rattle.membership.specs.Actors as membership
 use Rattle.access_lists.specs.declared.acl.Acl.{Acl}
+use Rattle.access_lists.specs.Acls.{with_creator}
 use Rattle.access_lists.specs.declared.starting.Container.{Container}
 use Rattle.access_lists.specs.Starting.{name_of, starting_list}
 use Rattle.doc_tree.specs.Doc.{Doc}
@@ -27,7 +28,7 @@ use Rattle.org_core.specs.AccessConditions.{AccessConditions, HasItsClients, has
 use Rattle.org_core.specs.Conditions.{MeetsConditions}
 use Rattle.org_shelves.proofs.KeepingLemmas.{nothing_meets}
 use Rattle.org_core.specs.Contexts.{Context, in_state}
-use Rattle.org_core.specs.Creating.{container_list, created_list, with_creator}
+use Rattle.org_core.specs.Creating.{container_list, created_list}
 use Rattle.org_core.specs.Moves.{after_moves, joins, with_objects}
 use Rattle.org_core.specs.Needs.{if_named}
 use Rattle.org_core.specs.ObjectConditions.{has, IsStored}

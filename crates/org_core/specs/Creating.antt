@@ -1,8 +1,8 @@
 -- What is created in a container, and the access list that it gets.
-use Rattle.std.specs.Prelude.{ℕ, List, [], ◌∷◌, Option, Some, None, unwrap_or}
+use Rattle.std.specs.Prelude.{ℕ, List, [], ◌∷◌, unwrap_or}
 use Rattle.access_lists.specs.declared.acl.Acl.{Acl}
 use Rattle.access_lists.specs.declared.starting.Container.{Container}
-use Rattle.access_lists.specs.Acls.{each_entry, with_actor}
+use Rattle.access_lists.specs.Acls.{with_creator}
 use Rattle.access_lists.specs.Starting.{name_of, starting_list}
 use Rattle.doc_tree.specs.Doc.{Doc}
 use Rattle.doc_tree.specs.declared.kind.Kind.{Kind}
@@ -17,11 +17,6 @@ use Rattle.org_core.specs.States.{State, list_in}
 -- the access list of a container, which is the one that it starts with until it is changed
 abbrev pub container_list : Container → State → Acl
 container_list container state = unwrap_or (list_in state (key kinds.Container (name_of container))) (starting_list container)
-
--- a list with who creates as an actor of all five permissions
-abbrev pub with_creator : Option (List ℕ) → Acl → Acl
-with_creator None list = list
-with_creator (Some caller) list = each_entry (with_actor caller) list
 
 -- the list of what the caller creates in a container: the container's, with the creator in it
 abbrev pub created_list : Container → Context → Acl

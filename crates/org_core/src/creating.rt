@@ -1,18 +1,18 @@
 //! What is created in a container, and the access list that it gets.
 
-ghost use Rattle.std.specs.Prelude.{◌≡◌, ◌++◌, ◌∷◌, [], Ok, IfOk, OnOk};
+ghost use Rattle.std.specs.Prelude.{◌≡◌, ◌++◌, ◌∷◌, [], Ok, IfOk, OnOk, option_copied};
+ghost use Rattle.access_lists.specs.Acls.{with_creator};
+ghost use Rattle.access_lists.specs.Starting.{starting_list};
 ghost use Rattle.org_core.specs.Contexts.{seen};
 ghost use Rattle.org_core.specs.Creating as spec;
 ghost use Rattle.org_core.specs.Outcomes.{IsAsDecided};
-ghost use Rattle.org_core.specs.States.{state_in};
 
 use crate::contexts::Context;
 use crate::moves::{Move, Moves};
 use crate::needs::key_of;
-use crate::org_state::OrgState;
 use crate::rules::Prepared;
 use crate::stored::Stored;
-use access_lists::{Acl, Container, starting_list};
+use access_lists::{Acl, AclAt, Container, starting_list};
 use doc_tree::{Kind, NoMemory, Text};
 use object_store::Key;
 use org_requests::created;
@@ -27,26 +27,35 @@ pub fn created_list(
 ) -> Result<Acl, NoMemory>
     ensures { IfOk result (λ list. list ≡ spec.created_list container (seen context.entry)) }
 {
-    let list = container_list(alloc, context.state, container)?;
-    match context.caller {
-        Some(caller) => {
-            let longer = list.with_actor(alloc, caller);
-            drop(list);
-            longer
-        }
-        None => Ok(list),
+    let key = key_of(alloc, Kind::Container, container.name())?;
+    match context.state.acl(&key) {
+        Some(list) => created_over(alloc, list, context.caller),
+        None => created_first(alloc, container, context.caller),
     }
 }
 
-/// A copy of the access list of a container.
-fn container_list(alloc: Global, state: &OrgState, container: Container) -> Result<Acl, NoMemory>
-    ensures { IfOk result (λ list. list ≡ spec.container_list container (state_in state.now)) }
+// A list with who creates, if anybody does, as an actor of all five permissions.
+fn created_over(alloc: Global, list: AclAt<'_>, caller: Option<&Text>) -> Result<Acl, NoMemory>
+    ensures { IfOk result (λ made. made ≡ with_creator (option_copied caller.entry) list.entry) }
 {
-    let key = key_of(alloc, Kind::Container, container.name())?;
-    match state.acl(&key) {
-        Some(list) => list.copy(alloc),
-        None => starting_list(alloc, container),
+    match caller {
+        Some(caller) => list.with_actor(alloc, caller),
+        None => list.copy(alloc),
     }
+}
+
+// The same of the list with which a container starts.
+fn created_first(
+    alloc: Global,
+    container: Container,
+    caller: Option<&Text>,
+) -> Result<Acl, NoMemory>
+    ensures { IfOk result (λ made. made ≡ with_creator (option_copied caller.entry) (starting_list container)) }
+{
+    let list = starting_list(alloc, container)?;
+    let made = created_over(alloc, AclAt::of(&list), caller);
+    drop(list);
+    made
 }
 
 /// Adds the moves by which an object comes into a container, with an access list of its own.

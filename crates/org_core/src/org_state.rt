@@ -20,7 +20,7 @@ ghost use Rattle.org_core.specs.Moves.{HasRoomToJoin, HasRoomToJoinFirst, IsOrde
 use crate::comers::Comer;
 use crate::file_moves::make_on_files;
 use crate::moves::{Move, Moves, files_put_in, puts_in, shelved_by};
-use access_lists::Acl;
+use access_lists::AclAt;
 use doc_tree::{Kind, NoMemory, Steps, Text, Texts, Tree};
 use membership::{Groups, MemberKind};
 use object_store::{Key, Objects};
@@ -122,8 +122,8 @@ impl OrgState {
     }
 
     /// The access list of the object of this key, if it has one. It takes no memory.
-    pub fn acl(&self, key: &Key) -> Option<&Acl>
-        ensures { option_copied result ≡ list_in (state_in self.now) key.now }
+    pub fn acl(&self, key: &Key) -> Option<AclAt<'_>>
+        ensures { result ≡ list_in (state_in self.now) key.now }
     {
         self.objects.acl(key)
     }
@@ -383,8 +383,8 @@ fn make_there(
         Move::Open => {}
         Move::Put(key, object) => drop(objects.put(key, object.into_tree())),
         Move::TakeOut(key) => drop(objects.take_out(&key)),
-        Move::PutList(key, list) => drop(objects.put_acl(key, list)),
-        Move::TakeList(key) => drop(objects.take_acl(&key)),
+        Move::PutList(key, list) => objects.put_acl(key, list),
+        Move::TakeList(key) => objects.take_acl(&key),
         Move::AddUser(comer) => add_user(groups, comer),
         Move::RemoveUser(name) => remove_user(objects, groups, &name),
         Move::AddClient(comer) => add_client(groups, comer),
