@@ -1,6 +1,6 @@
 //! What is created in a container, and the access list that it gets.
 
-ghost use Rattle.std.specs.Prelude.{◌≡◌, ◌++◌, ◌∷◌, [], Ok, IfOk, OnOk, option_copied};
+ghost use Rattle.std.specs.Prelude.{◌≡◌, ◌++◌, ◌∷◌, [], Ok, IfOk, OnOk};
 ghost use Rattle.access_lists.specs.Acls.{with_creator};
 ghost use Rattle.access_lists.specs.Starting.{starting_list};
 ghost use Rattle.org_core.specs.Contexts.{seen};
@@ -35,8 +35,8 @@ pub fn created_list(
 }
 
 // A list with who creates, if anybody does, as an actor of all five permissions.
-fn created_over(alloc: Global, list: AclAt<'_>, caller: Option<&Text>) -> Result<Acl, NoMemory>
-    ensures { IfOk result (λ made. made ≡ with_creator (option_copied caller.entry) list.entry) }
+fn created_over(alloc: Global, list: AclAt<'_>, caller: &Option<Text>) -> Result<Acl, NoMemory>
+    ensures { IfOk result (λ made. made ≡ with_creator caller.now list.entry) }
 {
     match caller {
         Some(caller) => list.with_actor(alloc, caller),
@@ -48,9 +48,9 @@ fn created_over(alloc: Global, list: AclAt<'_>, caller: Option<&Text>) -> Result
 fn created_first(
     alloc: Global,
     container: Container,
-    caller: Option<&Text>,
+    caller: &Option<Text>,
 ) -> Result<Acl, NoMemory>
-    ensures { IfOk result (λ made. made ≡ with_creator (option_copied caller.entry) (starting_list container)) }
+    ensures { IfOk result (λ made. made ≡ with_creator caller.now (starting_list container)) }
 {
     let list = starting_list(alloc, container)?;
     let made = created_over(alloc, AclAt::of(&list), caller);
