@@ -48,6 +48,17 @@ invariant_of-self-clause-there g c =
     (λ kept same. subst (λ (k : Kept). state_in k ≢ None) (some_is c.serve.new.state kept same) there)
     c.args.self.now.there
 
+-- each is kept under its name, and so is the one that was served
+pub invariant_of-self-clause-named : goal.invariant_of-self-clause-named
+invariant_of-self-clause-named g c =
+    let was : kept_at c.args.self.now.organisations c.args.org.now ≡ Some c.in-Some.state.now = search rules in
+    let named : c.in-Some.state.now.name ≡ c.args.org.now = c.args.self.now.named c.args.org.now c.in-Some.state.now was in
+    let left_named : c.serve.new.state.name ≡ c.args.org.now = c.serve.ensures.name ∙ named in
+    each-written (λ name kept. kept.name ≡ name) c.args.self.now.organisations (c.get_mut.follows.lender c.serve.new.state) c.args.org.now (Some c.serve.new.state)
+    ((c.get_mut.follows.holds c.serve.new.state).3 (search rules)).0
+    (λ kept same. subst (λ (k : Kept). k.name ≡ c.args.org.now) (some_is c.serve.new.state kept same) left_named)
+    c.args.self.now.named
+
 -- a refusal leaves each as it was
 pub returns-in-Some-clause-stays : goal.returns-in-Some-clause-stays
 returns-in-Some-clause-stays g c =
