@@ -1,7 +1,7 @@
 -- What is next in the tokens of a document's text, for the private clauses of reading.
 use Rattle.std.specs.Prelude.{◌≡◌, List, ◌++◌, Bool, true, false}
 use Rattle.json.specs.Token.{Token, begin_object, end_object, begin_array, end_array, key, string, number, boolean, null, bad}
-use Rattle.doc_tree.specs.Doc.{Doc, dict, Docs, Pairs}
+use Rattle.doc_tree.specs.Doc.{dict, Docs, Pairs}
 use Rattle.doc_tree.specs.Tokens.{doc_tokens, docs_tokens, pairs_tokens}
 use Rattle.doc_tree.specs.Valid.{IsDoc, AreDocs}
 use Rattle.compact_json.specs.Compact.{first_doc}

@@ -7,7 +7,7 @@ use Rattle.ordered_keys.specs.declared.nodes.Node.{Node}
 use Rattle.ordered_keys.specs.Numbers.{Among, AreApart}
 use Rattle.ordered_keys.specs.Nodes.{CanJoin, Changes, IsNew, IsTree, IsWhole, Joins, left_in, node_in, none, numbers_in, right_in}
 use Rattle.ordered_keys.specs.Tree.{GivesUp, IsParted, IsPlaced, Parts, TakesIn, stand}
-use Rattle.ordered_keys.proofs.NumberLemmas.{Among-left, Among-right, Among-split, apart_join, apart_parts, nothing_behind}
+use Rattle.ordered_keys.proofs.NumberLemmas.{Among-left, Among-right, Among-split, apart_join, apart_parts}
 use Rattle.ordered_keys.proofs.NodeLemmas.{Opens, changes_both, changes_none, empty_tree, hangs, hung, nothing, opens, stays}
 use Rattle.ordered_keys.proofs.TreeLemmas.{left_out_here, left_out_left, left_out_right, parted_left, parted_right, placed_left, placed_right}
 
@@ -122,20 +122,6 @@ can_join_left nodes front back can differs =
       apart = apart_join (numbers_in nodes front) (numbers_in nodes (left_in nodes back)) p.left b.left_apart (λ j a c. p.across j a (b.in_left j c));
       fits = omega (arith, b.count, can.fits);
     }
-
-pub joins_back : (nodes : List Node) (front back : ℕ) → CanJoin nodes front back → front ≡ none → Joins nodes nodes front back back
-joins_back nodes front back can is = record {
-  tree = can.back_tree;
-  numbers_are = ap (λ z. z ++ numbers_in nodes back) (sym (nothing nodes) ∙ ap (numbers_in nodes) (sym is));
-  changes = changes_none nodes (numbers_in nodes front ++ numbers_in nodes back);
-}
-
-pub joins_front : (nodes : List Node) (front back : ℕ) → CanJoin nodes front back → back ≡ none → Joins nodes nodes front back front
-joins_front nodes front back can is = record {
-  tree = can.front_tree;
-  numbers_are = nothing_behind (numbers_in nodes front) ∙ ap (λ z. numbers_in nodes front ++ z) (sym (nothing nodes) ∙ ap (numbers_in nodes) (sym is));
-  changes = changes_none nodes (numbers_in nodes front ++ numbers_in nodes back);
-}
 
 pub joins_right : (old mid new : List Node) (front back r : ℕ) (node : Node) → node ≡ node_in old front → CanJoin old front back → front ≢ none → Joins old mid node.right back r → new ≡ set mid front (record { left = node.left; right = r }) → Joins old new front back front
 joins_right old mid new front back r node at can differs joined is =

@@ -6,7 +6,7 @@ use Rattle.std.proofs.lemmas.Bool.{cases_eq, cases_lt}
 use Rattle.std.proofs.lemmas.List.{length-append, length-set, get_or-set_same, get_or-set_other, get_or_past}
 use Rattle.ordered_keys.specs.declared.nodes.Node.{Node}
 use Rattle.ordered_keys.specs.Numbers.{Among, AreApart, Loses}
-use Rattle.ordered_keys.specs.Keys.{key_in, Inserts, Removes, Grows}
+use Rattle.ordered_keys.specs.Keys.{key_in, Inserts, Removes}
 use Rattle.ordered_keys.specs.Arranged.{CanLeave, IsCutOf, IsListing, Places}
 use Rattle.ordered_keys.specs.Nodes.{IsChain, IsNew, node_in, none, numbers_in, right_in}
 use Rattle.ordered_keys.specs.Stored.{AreFree, IsStored}
@@ -166,20 +166,6 @@ module _ {T : Type 0} where
     pub nodes_hold : size ≤ nodes_room
     pub small : size < none
 
-  pub growing : (slots : List (Option T)) (nodes : List Node) (top free room slots_room nodes_room number size : ℕ) → IsStored slots nodes top free room → length slots ≡ number → number ≤ size → size ≤ slots_room → size ≤ nodes_room → size < none
-      → Growing slots slots nodes (numbers_in nodes top) top free room room slots_room nodes_room number size
-  growing slots nodes top free room slots_room nodes_room number size stored is within one two small = record {
-    stored = stored;
-    order_is = refl;
-    same = λ i. refl;
-    length_is = is;
-    within = within;
-    more = refl;
-    slots_hold = one;
-    nodes_hold = two;
-    small = small;
-  }
-
   growing_more : (old slots : List (Option T)) (nodes : List Node) (order : List ℕ) (top free room was slots_room nodes_room number size : ℕ) → Growing old slots nodes order top free room was slots_room nodes_room number size → number < size
       → Growing old (slots ++ None ∷ []) (nodes ++ record { left = none; right = free } ∷ []) order top number (room + 1) was slots_room nodes_room (number + 1) size
   growing_more old slots nodes order top free room was slots_room nodes_room number size g lt =
@@ -207,14 +193,6 @@ module _ {T : Type 0} where
       (subst (λ c. Growing old (slots ++ None ∷ []) (nodes ++ record { left = none; right = free } ∷ []) order top number (room + 1) was c nodes_now (number + 1) size) (sym three)
       (subst (λ d. Growing old (slots ++ None ∷ []) (nodes ++ record { left = none; right = free } ∷ []) order top number (room + 1) was slots_room d (number + 1) size) (sym four)
       (growing_more old slots nodes order top free room was slots_room nodes_room number size g lt))))
-
-  pub all_grown : (old slots : List (Option T)) (nodes : List Node) (order : List ℕ) (top free room was slots_room nodes_room number size more : ℕ) → Growing old slots nodes order top free room was slots_room nodes_room number size → number ≡ length old + more
-      → Grows (record { slots = old; room = was }) (record { slots = slots; room = room }) more
-  all_grown old slots nodes order top free room was slots_room nodes_room number size more g is = record {
-    same = g.same;
-    room = omega (arith, g.more, g.length_is);
-    size = g.length_is ∙ is;
-  }
 
   -- ---- an item in
 
@@ -333,23 +311,16 @@ module _ {T : Type 0} where
     pub within : id < length slots
     pub has_node : id < length nodes
     pub small : id < none
-    pub room_small : room < none
 
   pub can_free : (slots : List (Option T)) (nodes mid : List Node) (top free room id : ℕ) → IsStored slots nodes top free room → IsSome (key_in slots id) → length mid ≡ length nodes → CanFree slots mid room id
   can_free slots nodes mid top free room id old some size =
       let within = there slots id some in
       let bound = old.bound in
-      let a = (old.listed.live id).1 some in
       record {
         within = within;
         has_node = omega (arith, within, old.even, size);
         small = omega (arith, within, bound);
-        room_small = omega (arith, old.total, bound, within, some_number (numbers_in nodes top) id a);
       }
-    where
-      some_number : (xs : List ℕ) (i : ℕ) → Among xs i → 1 ≤ length xs
-      some_number [] i a = absurd a
-      some_number (x ∷ xs) i a = omega arith
 
   pub taken_out : (cmp : T → T → Ordering) (slots : List (Option T)) (nodes mid new : List Node) (top now free room : ℕ) (x : T) (id : ℕ) → IsStored slots nodes top free room → key_in slots id ≡ Some x → CanLeave cmp (record { slots = slots; order = numbers_in nodes top; room = room }) id
       → GivesUp (λ y. cmp y x) (key_in slots) nodes mid top now → new ≡ set mid id (record { left = none; right = free }) → IsOut slots nodes new top now room id

@@ -20,13 +20,6 @@ pub nothing_behind : (xs : List ℕ) → xs ≡ xs ++ []
 nothing_behind [] = refl
 nothing_behind (x ∷ xs) = ap (λ z. x ∷ z) (nothing_behind xs)
 
-pub apart_push : (xs : List ℕ) (x : ℕ) → AreApart xs → (Among xs x → ⊥) → AreApart (xs ++ x ∷ [])
-apart_push [] x h out = (λ a. a, tt)
-apart_push (y ∷ xs) x h out = (
-  λ a. elim (Among-split xs (x ∷ []) y a) [ inl b ↦ h.0 b | inr (inl e) ↦ out (inl (sym e)) | inr (inr b) ↦ b ],
-  apart_push xs x h.1 (λ a. out (inr a)),
-)
-
 pub apart_pop : (xs : List ℕ) (x : ℕ) → AreApart (xs ++ x ∷ []) → AreApart xs × (Among xs x → ⊥)
 apart_pop [] x h = (tt, λ a. a)
 apart_pop (y ∷ xs) x h =

@@ -44,9 +44,6 @@ module _ {T : Type 0} (standing : T → Ordering) (item : ℕ → Option T) wher
 
   -- ---- a number more
 
-  pub placed_here : (all front back : List ℕ) (id : ℕ) (now : List ℕ) → IsParted standing item all front back → now ≡ front ++ id ∷ back → IsPlaced standing item all id now
-  placed_here all front back id now p now_is = record { front = front; back = back; parted = p; placed = now_is }
-
   pub placed_right : (all left : List ℕ) (i : ℕ) (right more : List ℕ) (id : ℕ) (now : List ℕ) → all ≡ left ++ i ∷ right → stand standing (item i) ≡ Less → IsPlaced standing item right id more → now ≡ left ++ i ∷ more → IsPlaced standing item all id now
   placed_right all left i right more id now is less p now_is = record {
     front = left ++ i ∷ p.front;
