@@ -39,6 +39,9 @@ less_is_not_equal r e f = absurd (cc)
 less_is_not_greater : (r : Ordering) → r ≡ Less → r ≡ Greater → ⊥
 less_is_not_greater r e f = absurd (cc)
 
+equal_is_not_greater : (r : Ordering) → r ≡ Equal → r ≡ Greater → ⊥
+equal_is_not_greater r e f = absurd (cc)
+
 pub above_of : (r : Ordering) → r ≢ Less → r ≢ Equal → r ≡ Greater
 above_of Less one two = absurd (one refl)
 above_of Equal one two = absurd (two refl)
