@@ -4,6 +4,7 @@ pub mod StoreLemmas
 pub mod NetLemmas
 pub mod WalkLemmas
 pub mod EqualKeys
+pub mod HashedLemmas
 pub mod WordLemmas
 pub mod UseLemmas
 pub mod TermLemmas

@@ -1,6 +1,6 @@
 -- Terms by the numbers of their words: what is seen of them, a term more and a term fewer.
-use Rattle.std.proofs.Common.{◌≡◌, ◌≢◌, ℕ, zero, suc, ◌+◌, ◌<◌, ◌≤◌, ◌^◌, inl, inr, List, [], ◌∷◌, length, map, Option, Some, None, is_some, IsSome, option_map, MatchOption, Result, Ok, Err, IfOk, OnErr, OnOk, refl, sym, ap, ap₂, subst, ◌∙◌, arith}
-use Rattle.std.proofs.lemmas.Bool.{cases_eq}
+use Rattle.std.proofs.Common.{◌≡◌, ◌≢◌, ℕ, zero, suc, ◌+◌, ◌<◌, ◌≤◌, ◌^◌, inl, inr, List, [], ◌∷◌, length, map, Option, Some, None, is_some, IsSome, IsTrue, Bool, true, false, eqb, ◌&&◌, option_map, MatchOption, Result, Ok, Err, IfOk, OnErr, OnOk, refl, sym, ap, ap₂, subst, ◌∙◌, arith}
+use Rattle.std.proofs.lemmas.Bool.{cases_eq, eqb-true, eq-eqb}
 use Rattle.std.proofs.lemmas.List.{get_or_past, length-map}
 use Rattle.std.proofs.lemmas.Result.{on_err_weaker}
 use Rattle.std.specs.Global.{Vec}
@@ -13,11 +13,17 @@ use Rattle.ordered_keys.specs.Arranged.{AllAre, AreWithin, Arrangement, CanLeave
 use Rattle.ordered_keys.specs.Order.{IsInOrder, IsRising}
 use Rattle.ordered_keys.proofs.OrderLemmas.{can_leave, cut_by, equal_once, in_order_grown, in_order_in, in_order_out, rising_kept}
 use Rattle.ordered_keys.proofs.ItemLemmas.{listing_kept}
+use Rattle.std.specs.declared.random_state.RandomState.{RandomState}
+use Rattle.search_index.specs.Place.{no_number}
+use Rattle.search_index.specs.HashedNumbers.{AreMet, Finds, IsMet, Keeps}
+use Rattle.search_index.specs.declared.hashed_numbers.End.TheVariants.{FreeSlot}
+use Rattle.search_index.specs.Hashing.{is_same, is_term, term_hash, term_hash_at}
 use Rattle.search_index.specs.KeyOrder.{TermKey, term_cmp, term_cmp_total, term_key}
-use Rattle.search_index.specs.Words.{IsCounted, Releases, SameWords, TakesIn, Vocabulary, uses_at, word_or_empty}
-use Rattle.search_index.specs.Terms.{AreTerms, MakesRoom, TakesOut, all_uses, spelled, term_in, terms_in, uses_of}
+use Rattle.search_index.specs.Words.{HasNoWord, IsCounted, Releases, SameWords, TakesIn, Vocabulary, uses_at, word_at, word_or_empty}
+use Rattle.search_index.specs.Terms.{AreKept, AreTerms, MakesRoom, TakesOut, all_uses, spelled, term_in, terms_in, uses_of}
 use Rattle.search_index.specs.declared.key.TermNumbers.{TermNumbers}
 use Rattle.search_index.proofs.EqualKeys.{same_terms}
+use Rattle.search_index.proofs.HashedLemmas.{met_fewer, met_with}
 use Rattle.search_index.proofs.NetLemmas.{cases_option}
 use Rattle.search_index.proofs.UseLemmas.{one_here, released_one, taken_most, taken_one, uses_changed, uses_few, uses_field, uses_hold, uses_same, uses_value}
 use Rattle.search_index.proofs.WordLemmas.{GrowsAtMost, grows_at_most, never_none, some_of, within}
@@ -326,3 +332,123 @@ module _ (a b : Arrangement TermNumbers) (v v1 : Vocabulary) (t : TermNumbers) (
             more = out.more;
             size = (let before = size_seen v a in let after = size_seen v b in let size = out.size in omega arith);
           }) loses) rest_stays
+
+-- ---- terms by their hashes
+
+both : (a b : Bool) → (a && b) ≡ true → (a ≡ true) × (b ≡ true)
+both true true is = (refl, refl)
+both true false is = absurd (cc)
+both false b is = absurd (cc)
+
+abbrev numbers_of : ℕ → ℕ → ℕ → TermNumbers
+numbers_of scope field value = record { scope = scope; field = field; value = value }
+
+numbers_are : (u : TermNumbers) (scope field value : ℕ) → u.scope ≡ scope → u.field ≡ field → u.value ≡ value → u ≡ numbers_of scope field value
+numbers_are u scope field value one two three = ap (λ n. numbers_of n u.field u.value) one ∙ ap (λ n. numbers_of scope n u.value) two ∙ ap (numbers_of scope field) three
+
+same_numbers : (u t : TermNumbers) → IsTrue (is_same u t) → u ≡ t
+same_numbers u t is =
+    let parts = both (eqb u.value t.value && eqb u.field t.field) (eqb u.scope t.scope) is in
+    let words = both (eqb u.value t.value) (eqb u.field t.field) parts.0 in
+    numbers_are u t.scope t.field t.value (eqb-true u.scope t.scope parts.1) (eqb-true u.field t.field words.1) (eqb-true u.value t.value words.0)
+
+itself : (t : TermNumbers) → IsTrue (is_same t t)
+itself t =
+    ap₂ (λ a b. a && b) (ap₂ (λ a b. a && b) (eq-eqb t.value t.value refl) (eq-eqb t.field t.field refl)) (eq-eqb t.scope t.scope refl)
+
+-- what is the term
+pub is_the_term : (o : Option TermNumbers) (t : TermNumbers) → IsTrue (is_term o t) → o ≡ Some t
+is_the_term None t is = absurd (cc)
+is_the_term (Some u) t is = ap Some (same_numbers u t is)
+
+the_term_is : (o : Option TermNumbers) (t : TermNumbers) → o ≡ Some t → IsTrue (is_term o t)
+the_term_is o t is = ap (λ z. is_term z t) is ∙ itself t
+
+-- what has a hash is a term
+hashed_term : (hasher : RandomState) (o : Option TermNumbers) (h : ℕ) → option_map (term_hash hasher) o ≡ Some h → (t : TermNumbers) × (o ≡ Some t)
+hashed_term hasher (Some t) h is = (t, refl)
+hashed_term hasher None h is = absurd (cc)
+
+module _ (a : Arrangement TermNumbers) (v : Vocabulary) (are : AreTerms a v) (counted : IsCounted v) (scope : ℕ) (field value : List ℕ) where
+  -- an equal term has the same words
+  record Equals (i : ℕ) : Type 0 where
+    numbers : TermNumbers
+    there : item_of a i ≡ Some numbers
+    scope_is : numbers.scope ≡ scope
+    field_is : key_of v.texts numbers.field ≡ Some field
+    value_is : key_of v.texts numbers.value ≡ Some value
+
+  word_is : (n : ℕ) (word : List ℕ) → IsSome (key_of v.texts n) → word_at v n ≡ word → key_of v.texts n ≡ Some word
+  word_is n word some is = let w = some_of (key_of v.texts n) some in w.1 ∙ ap Some (sym (ap word_or_empty w.1) ∙ is)
+
+  equals : (i : ℕ) (x : TermKey) → key_of (terms_in a v) i ≡ Some x → term_cmp x (term_key scope field value) ≡ Equal → Equals i
+  equals i x is equal =
+      let y = item_from v a i x is in
+      let same : term_in v y.0 ≡ term_key scope field value = y.2 ∙ same_terms x (term_key scope field value) equal in
+      record {
+        numbers = y.0;
+        there = y.1;
+        scope_is = ap (λ (z : TermKey). z.scope) same;
+        field_is = word_is y.0.field field (field_there v a are counted i y.0 y.1) (ap (λ (z : TermKey). z.pair.field) same);
+        value_is = word_is y.0.value value (value_there v a are counted i y.0 y.1) (ap (λ (z : TermKey). z.pair.value) same);
+      }
+
+  pub no_field : HasNoWord v field → IsAbsent term_cmp (terms_in a v) (term_key scope field value)
+  no_field none i x is equal = let e = equals i x is equal in none e.numbers.field e.field_is
+
+  pub no_value : HasNoWord v value → IsAbsent term_cmp (terms_in a v) (term_key scope field value)
+  no_value none i x is equal = let e = equals i x is equal in none e.numbers.value e.value_is
+
+  module _ (f w : ℕ) (one : key_of v.texts f ≡ Some field) (two : key_of v.texts w ≡ Some value) where
+    abbrev pub sought : TermNumbers
+    sought = record { scope = scope; field = f; value = w }
+
+    -- where a way ends at a free slot, the term isn't there
+    pub no_term : (hasher : RandomState) (slots : List ℕ) → AreMet (term_hash_at hasher a) slots → Finds (λ n. is_term (item_of a n) sought) slots (term_hash hasher sought) FreeSlot → IsAbsent term_cmp (terms_in a v) (term_key scope field value)
+    no_term hasher slots met finds i x is equal =
+        let e = equals i x is equal in
+        let same : e.numbers ≡ sought = numbers_are e.numbers scope f w e.scope_is (counted.once e.numbers.field f field e.field_is one) (counted.once e.numbers.value w value e.value_is two) in
+        let there : item_of a i ≡ Some sought = e.there ∙ ap Some same in
+        finds i (met i (term_hash hasher sought) (ap (option_map (term_hash hasher)) there)) (the_term_is (item_of a i) sought there)
+
+    -- and where the term stands under a number, it is the one
+    pub term_found : (n : ℕ) → IsTrue (is_term (item_of a n) sought) → key_of (terms_in a v) n ≡ Some (term_key scope field value)
+    term_found n is = item_is v a n sought (is_the_term (item_of a n) sought is) ∙ ap Some (ap₂ (term_key scope) (ap word_or_empty one) (ap word_or_empty two))
+
+-- the terms are met with one more
+pub terms_met_with : (hasher : RandomState) (a b : Arrangement TermNumbers) (t : TermNumbers) (id : ℕ) (slots more : List ℕ) → length a.slots ≤ 4294967294 → Inserts (keys_of a) (keys_of b) t id → AreMet (term_hash_at hasher a) slots → IsMet more (term_hash hasher t) id → Keeps slots more → AreMet (term_hash_at hasher b) more
+terms_met_with hasher a b t id slots more few inserts met here keeps =
+    met_with (term_hash_at hasher a) (term_hash_at hasher b) slots more id (term_hash hasher t) met (ap (option_map (term_hash hasher)) inserts.put) (λ i differs. ap (option_map (term_hash hasher)) (inserts.others i differs)) here keeps
+    (λ i h is e. let u = hashed_term hasher (item_of a i) h is in let small = within a.slots i (ap is_some u.1) in omega (arith, small, few, e))
+
+-- and with no more than there were
+pub terms_met : (hasher : RandomState) (a b : Arrangement TermNumbers) (slots : List ℕ) → ((i : ℕ) (t : TermNumbers) → item_of b i ≡ Some t → item_of a i ≡ Some t) → AreMet (term_hash_at hasher a) slots → AreMet (term_hash_at hasher b) slots
+terms_met hasher a b slots kept met = met_fewer (term_hash_at hasher a) (term_hash_at hasher b) slots met
+    (λ i h is. let t = hashed_term hasher (item_of b i) h is in ap (option_map (term_hash hasher)) (kept i t.0 t.1 ∙ sym t.1) ∙ is)
+
+-- nothing stands under a number past 32 bits
+pub no_term_past : (hasher : RandomState) (a : Arrangement TermNumbers) → length a.slots ≤ 4294967294 → (i : ℕ) → no_number ≤ i → term_hash_at hasher a i ≡ None
+no_term_past hasher a few i past = ap (option_map (term_hash hasher)) (get_or_past a.slots i None (omega (arith, few, past)))
+
+-- what is left was there
+pub left_before : (a b : Arrangement TermNumbers) (id : ℕ) → Removes (keys_of a) (keys_of b) id → (i : ℕ) (t : TermNumbers) → item_of b i ≡ Some t → item_of a i ≡ Some t
+left_before a b id gone i t is = elim (cases_eq i id) [
+  | inl same ↦ absurd (never (sym is ∙ ap (item_of b) same ∙ gone.gone))
+  | inr differs ↦ sym (gone.others i differs) ∙ is
+]
+  where
+    never : {u : TermNumbers} → Some u ≡ None → ⊥
+    never e = absurd (cc)
+
+-- the terms with more numbers, where there was memory for them
+pub record AreGrown (a b : Arrangement TermNumbers) (v w : Vocabulary) (hashed : List ℕ) (hasher : RandomState) (terms : ℕ) : Type 0 where
+  pub kept : AreKept b w hashed hasher
+  pub makes : MakesRoom (terms_in a v) (terms_in b w) terms
+
+pub grown_terms : (a b : Arrangement TermNumbers) (v w : Vocabulary) (hashed : List ℕ) (hasher : RandomState) (more terms : ℕ) → AreKept a v hashed hasher → SameWords v w → GrowsAtMost (keys_of a) (keys_of b) more → more ≤ terms → b.order ≡ a.order → length b.slots ≤ 4294967294 → AreGrown a b v w hashed hasher terms
+grown_terms a b v w hashed hasher more terms kept same grows less order few =
+    let made = room_made a b v w more terms kept.are same grows less order few in
+    record {
+      kept = record { are = made.are; met = terms_met hasher a b hashed (λ i t is. sym (grows.same i) ∙ is) kept.met };
+      makes = made.makes;
+    }

@@ -5,6 +5,8 @@ pub mod Chains
 pub mod Net
 pub mod Scope
 pub mod KeyOrder
+pub mod HashedNumbers
+pub mod Hashing
 pub mod Words
 pub mod Terms
 pub mod Arena

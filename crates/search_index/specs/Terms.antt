@@ -1,9 +1,12 @@
 -- Terms by the numbers of their words, for the private clauses.
 use Rattle.std.specs.Prelude.{◌≡◌, ◌≢◌, ◌+◌, ◌/◌, ◌≤◌, ℕ, Bool, cond, eqb, List, length, map, min, Option, Some, None, option_map}
 use Rattle.std.specs.List.{sum_by}
+use Rattle.std.specs.declared.random_state.RandomState.{RandomState}
 use Rattle.ordered_keys.specs.Arranged.{Arrangement}
 use Rattle.ordered_keys.specs.Keys.{Keys, key_of}
 use Rattle.ordered_keys.specs.Order.{IsInOrder}
+use Rattle.search_index.specs.HashedNumbers.{AreMet}
+use Rattle.search_index.specs.Hashing.{term_hash_at}
 use Rattle.search_index.specs.KeyOrder.{TermKey, term_cmp, term_key}
 use Rattle.search_index.specs.Words.{Vocabulary, uses_at, word_at}
 use Rattle.search_index.specs.declared.key.TermAt.{TermAt}
@@ -43,6 +46,11 @@ pub record AreTerms (a : Arrangement TermNumbers) (v : Vocabulary) : Type 0 wher
   pub counted : (i : ℕ) → uses_at v i ≡ all_uses a.slots i
   pub in_order : IsInOrder term_cmp (spelled v a)
   pub few : length a.slots ≤ 4294967294
+
+-- terms as they are kept: their numbers are met on the ways from their hashes
+pub record AreKept (a : Arrangement TermNumbers) (v : Vocabulary) (hashed : List ℕ) (hasher : RandomState) : Type 0 where
+  pub are : AreTerms a v
+  pub met : AreMet (term_hash_at hasher a) hashed
 
 -- the terms are as they were, in no more than so many further numbers
 pub record MakesRoom (old new : Keys TermKey) (more : ℕ) : Type 0 where

@@ -1,7 +1,10 @@
 -- Words under numbers, with how often each is used, for the private clauses.
-use Rattle.std.specs.Prelude.{◌≡◌, ◌≢◌, ◌↔◌, ◌+◌, ◌≤◌, ◌++◌, ℕ, List, [], length, replicate, Option, Some, None, IsSome, slice_index_or, refl}
+use Rattle.std.specs.Prelude.{◌≡◌, ◌≢◌, ◌↔◌, ◌+◌, ◌≤◌, ◌++◌, ℕ, Bool, false, List, [], length, replicate, Option, Some, None, IsSome, bytes_eq, slice_index_or, refl}
 use Rattle.std.specs.Coded.{Coded, code_by, coded×, coded_list, coded_ℕ}
+use Rattle.std.specs.declared.random_state.RandomState.{RandomState}
 use Rattle.ordered_keys.specs.Keys.{IsOnce, Keys, Numbers, key_of, keys_code}
+use Rattle.search_index.specs.HashedNumbers.{AreMet}
+use Rattle.search_index.specs.Hashing.{word_hash_at}
 
 -- the word under each number, and how often it is used
 pub record Vocabulary : Type 0 where
@@ -31,6 +34,20 @@ pub record IsCounted (v : Vocabulary) : Type 0 where
   pub once : IsOnce v.texts
   pub counts : length v.texts.slots ≤ length v.uses
   pub few : length v.texts.slots ≤ 4294967294
+
+-- words as they are kept: their numbers are met on the ways from their hashes
+pub record AreWords (v : Vocabulary) (hashed : List ℕ) (hasher : RandomState) : Type 0 where
+  pub counted : IsCounted v
+  pub met : AreMet (word_hash_at hasher v.texts) hashed
+
+-- what stands under a number is this word
+abbrev pub is_word : Option (List ℕ) → List ℕ → Bool
+is_word None word = false
+is_word (Some text) word = bytes_eq text word
+
+-- the word is under no number
+abbrev pub HasNoWord : Vocabulary → List ℕ → Type 0
+HasNoWord v word = (i : ℕ) → key_of v.texts i ≢ Some word
 
 -- more words may be used, and none of these is
 abbrev pub PadsUses : List ℕ → List ℕ → Type 0

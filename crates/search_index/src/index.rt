@@ -27,6 +27,7 @@ use ordered_keys::Ordered;
 use query_text::Query;
 use search_query::Pairs;
 use std::alloc::Global;
+use std::hash::RandomState;
 use std::marker::Model;
 
 /// The pairs of the objects of all scopes, as postings in one arena. Contracts see which objects are there, which pairs
@@ -63,14 +64,15 @@ impl Model for Index {
 impl Index {
     ghost use Rattle.search_index.specs.Arena.{IsEmpty};
 
-    /// No object, and no room. It takes no memory.
-    pub fn none(alloc: Global) -> Index
+    /// No object, and no room. Words and terms are hashed by the hasher, which changes nothing that is found. It takes no
+    /// memory.
+    pub fn none(alloc: Global, hasher: RandomState) -> Index
         ensures { IsEmpty result }
     {
         Index {
             scopes: Scopes::none(alloc),
             objects: Ordered::none(alloc),
-            terms: Terms::none(alloc),
+            terms: Terms::none(alloc, hasher),
             postings: Postings::none(alloc),
         }
     }

@@ -5,6 +5,7 @@ mod arena;
 mod bounds;
 mod fields;
 mod found;
+mod hashed_numbers;
 mod index;
 mod key;
 mod merge;

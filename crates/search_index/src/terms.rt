@@ -2,14 +2,17 @@
 ghost use Rattle.std.specs.Prelude.{◌≡◌, ◌≤◌, IfOk, IsSome, MatchOption, OnOk, Some, [], length, option_map};
 ghost use Rattle.ordered_keys.specs.Keys.{AreBetween, IsAbsent, IsOnce, Numbers, key_of};
 ghost use Rattle.search_index.specs.KeyOrder.{term_cmp, term_key};
+ghost use Rattle.search_index.specs.Hashing.{is_term, term_hash, term_hash_at};
 ghost use Rattle.search_index.specs.Terms.{MakesRoom, TakesOut, term_at, term_in};
 
+use crate::hashed_numbers::{End, HashedNumbers, Hashes, Meant};
 use crate::key::{MOST_NUMBERS, TermAt, TermNumbers};
 use crate::words::Words;
 use doc_tree::{NoMemory, Text};
 use ordered_keys::{Arranged, Ranking, Sought};
 use std::alloc::Global;
 use std::cmp::Ordering;
+use std::hash::{BuildHasher, Hasher, RandomState};
 use std::marker::Model;
 
 /// Terms, no two of them equal, each under a number that it keeps, in the order of their scopes, then of the bytes of
@@ -19,6 +22,9 @@ use std::marker::Model;
 pub(crate) struct Terms {
     numbers: Arranged<TermNumbers>,
     words: Words,
+    // The numbers of the terms, by the hashes of their words' numbers.
+    hashed: HashedNumbers,
+    hasher: RandomState,
 }
 
 impl Model for Terms {
@@ -29,21 +35,23 @@ impl Model for Terms {
 
     ghost coded = { keys_code term_code };
 
-    ghost use Rattle.search_index.specs.Terms.{AreTerms, terms_in};
+    ghost use Rattle.search_index.specs.Terms.{AreKept, terms_in};
 
     ghost view = { λ t. terms_in t.numbers t.words };
 
-    ghost invariant = { λ t. AreTerms t.numbers t.words };
+    ghost invariant = { λ t. AreKept t.numbers t.words t.hashed t.hasher };
 }
 
 impl Terms {
-    /// No term, and no room. It takes no memory.
-    pub(crate) fn none(alloc: Global) -> Terms
+    /// No term, and no room. Words and terms are hashed by the hasher. It takes no memory.
+    pub(crate) fn none(alloc: Global, hasher: RandomState) -> Terms
         ensures { result ≡ record { slots = []; room = 0 } }
     {
         Terms {
             numbers: Arranged::none(alloc),
-            words: Words::none(alloc),
+            words: Words::none(alloc, hasher),
+            hashed: HashedNumbers::none(alloc),
+            hasher,
         }
     }
 
@@ -72,7 +80,12 @@ impl Terms {
             return Err(NoMemory);
         }
         self.words.reserve(words)?;
-        self.numbers.grow(more)
+        self.numbers.grow(more)?;
+        if self.hashed.is_full_with(terms) {
+            let (numbers, hasher) = (&self.numbers, self.hasher);
+            self.hashed.begin_anew(&TermHashes { numbers, hasher })?;
+        }
+        Ok(())
     }
 
     /// The number of a term, which is put in where it isn't there. It takes no memory.
@@ -106,7 +119,9 @@ impl Terms {
             field: self.words.take_in(field),
             value: self.words.take_in(value),
         };
-        self.numbers.insert(&ByWords { words: &self.words }, term)
+        let number = self.numbers.insert(&ByWords { words: &self.words }, term);
+        self.hashed.put(term_hash(self.hasher, &term), number as u32);
+        number
     }
 
     /// Takes out the term under a number, which has one, with the words that no other term uses. It takes no memory.
@@ -138,8 +153,35 @@ impl Terms {
         }
     }
 
-    /// The number of a term, if it is there.
+    /// The number of a term, if it is there. A term is there only where its words are.
     pub(crate) fn find(&self, term: &TermAt) -> Option<usize>
+        ensures { MatchOption result (IsAbsent term_cmp self.now (term_at term.now)) (λ number. key_of self.now number ≡ Some (term_at term.now)) }
+    {
+        self.words.known();
+        let Some(field) = self.words.find(term.field) else {
+            return None;
+        };
+        let Some(value) = self.words.find(term.value) else {
+            return None;
+        };
+        let term_numbers = TermNumbers {
+            scope: term.scope,
+            field,
+            value,
+        };
+        let sought = SoughtNumbers {
+            numbers: &self.numbers,
+            term: term_numbers,
+        };
+        match self.hashed.find(term_hash(self.hasher, &term_numbers), &sought) {
+            End::Number(number) => Some(number as usize),
+            End::FreeSlot => None,
+            End::Begin => self.find_in_order(term),
+        }
+    }
+
+    // The number of a term, if it is there, without the hashes.
+    fn find_in_order(&self, term: &TermAt) -> Option<usize>
         ensures { MatchOption result (IsAbsent term_cmp self.now (term_at term.now)) (λ number. key_of self.now number ≡ Some (term_at term.now)) }
     {
         let words = &self.words;
@@ -172,6 +214,66 @@ fn parts_of<'a>(words: &'a Words, term: &TermNumbers) -> TermAt<'a>
         field: words.word(term.field),
         value: words.word(term.value),
     }
+}
+
+/// The hash of a term, by the numbers of its scope and of its words (SipHash-1-3 with the hasher's keys).
+fn term_hash(hasher: RandomState, term: &TermNumbers) -> u64
+    ensures { result ≡ term_hash hasher term.now }
+{
+    let mut state = hasher.build_hasher();
+    state.write_u32(term.scope);
+    state.write_u32(term.field);
+    state.write_u32(term.value);
+    state.finish()
+}
+
+/// The hashes of terms.
+#[derive(Drop)]
+struct TermHashes<'a> {
+    numbers: &'a Arranged<TermNumbers>,
+    hasher: RandomState,
+}
+
+impl<'a> Hashes for TermHashes<'a> {
+    ghost hash = { λ t. term_hash_at t.hasher t.numbers.now };
+
+    fn size(&self) -> usize {
+        self.numbers.size()
+    }
+
+    fn hash_at(&self, number: usize) -> Option<u64> {
+        match self.numbers.get(number) {
+            Some(term) => Some(term_hash(self.hasher, term)),
+            None => None,
+        }
+    }
+}
+
+/// The numbers of a term that is looked for.
+#[derive(Drop)]
+struct SoughtNumbers<'a> {
+    numbers: &'a Arranged<TermNumbers>,
+    term: TermNumbers,
+}
+
+impl<'a> Meant for SoughtNumbers<'a> {
+    ghost meant = { λ s number. is_term (item_of s.numbers.now number) s.term };
+
+    fn is(&self, number: u32) -> bool {
+        match self.numbers.get(number as usize) {
+            Some(term) => is_same(term, &self.term),
+            None => false,
+        }
+    }
+}
+
+ghost use Rattle.ordered_keys.specs.Arranged.{item_of};
+ghost use Rattle.search_index.specs.Hashing.{is_same};
+
+fn is_same(term: &TermNumbers, other: &TermNumbers) -> bool
+    ensures { result ≡ is_same term.now other.now }
+{
+    term.value == other.value && term.field == other.field && term.scope == other.scope
 }
 
 /// The order of terms, by their words.

@@ -1,12 +1,16 @@
 //! Words, each once, under numbers of 32 bits, with how often each is used.
-ghost use Rattle.std.specs.Prelude.{◌≡◌, ◌+◌, ◌<◌, ◌≤◌, ◌^◌, ℕ, IsSome, OnOk, [], length};
+ghost use Rattle.std.specs.Prelude.{◌≡◌, ◌+◌, ◌<◌, ◌≤◌, ◌^◌, ℕ, IsSome, MatchOption, OnOk, Some, [], length};
 ghost use Rattle.ordered_keys.specs.Keys.{key_of};
-ghost use Rattle.search_index.specs.Words.{IsCounted, PadsUses, Releases, SameWords, TakesIn, uses_at, word_at};
+ghost use Rattle.search_index.specs.Words.{HasNoWord, IsCounted, PadsUses, Releases, SameWords, TakesIn, is_word, uses_at, word_at};
+ghost use Rattle.search_index.specs.Hashing.{hash_of, word_hash_at};
 
+use crate::hashed_numbers::{End, HashedNumbers, Hashes, Meant};
 use crate::key::MOST_NUMBERS;
 use doc_tree::{NoMemory, Text};
-use ordered_keys::Ordered;
+use ordered_keys::{Ordered, Probe};
 use std::alloc::Global;
+use std::cmp::Ordering;
+use std::hash::{BuildHasher, Hasher, RandomState};
 use std::marker::Model;
 
 /// Words, each of which is kept once and as long as it is used. Contracts see the word under each number, how often it is
@@ -16,6 +20,9 @@ pub(crate) struct Words {
     texts: Ordered<Text>,
     // How often the word under each number is used.
     uses: Vec<usize>,
+    // The numbers of the words, by the words' hashes.
+    hashed: HashedNumbers,
+    hasher: RandomState,
 }
 
 impl Model for Words {
@@ -25,21 +32,23 @@ impl Model for Words {
 
     ghost coded = { vocabulary_code };
 
-    ghost use Rattle.search_index.specs.Words.{IsCounted};
+    ghost use Rattle.search_index.specs.Words.{AreWords};
 
     ghost view = { λ w. record { texts = w.texts; uses = w.uses.items } };
 
-    ghost invariant = { λ w. IsCounted (record { texts = w.texts; uses = w.uses.items }) };
+    ghost invariant = { λ w. AreWords (record { texts = w.texts; uses = w.uses.items }) w.hashed w.hasher };
 }
 
 impl Words {
     /// No word, and no room. It takes no memory.
-    pub(crate) fn none(alloc: Global) -> Words
+    pub(crate) fn none(alloc: Global, hasher: RandomState) -> Words
         ensures { result ≡ record { texts = record { slots = []; room = 0 }; uses = [] } }
     {
         Words {
             texts: Ordered::none(alloc),
             uses: Vec::new(alloc),
+            hashed: HashedNumbers::none(alloc),
+            hasher,
         }
     }
 
@@ -81,7 +90,34 @@ impl Words {
             return Err(NoMemory);
         }
         pad(&mut self.uses, size)?;
-        self.texts.grow(more)
+        self.texts.grow(more)?;
+        if self.hashed.is_full_with(words) {
+            let (texts, hasher) = (&self.texts, self.hasher);
+            self.hashed.begin_anew(&WordHashes { texts, hasher })?;
+        }
+        Ok(())
+    }
+
+    /// The number of a word, if it is there.
+    pub(crate) fn find(&self, word: &[u8]) -> Option<u32>
+        ensures { MatchOption result (HasNoWord self.now word.now) (λ number. key_of self.now.texts number ≡ Some word.now) }
+    {
+        let texts = &self.texts;
+        match self.hashed.find(hash_of(self.hasher, word), &SoughtWord { texts, word }) {
+            End::Number(number) => Some(number),
+            End::FreeSlot => None,
+            End::Begin => self.find_in_order(word),
+        }
+    }
+
+    // The number of a word, if it is there, without the hashes.
+    fn find_in_order(&self, word: &[u8]) -> Option<u32>
+        ensures { MatchOption result (HasNoWord self.now word.now) (λ number. key_of self.now.texts number ≡ Some word.now) }
+    {
+        match self.texts.find(&WordAt(word)) {
+            Some(number) => Some(number as u32),
+            None => None,
+        }
     }
 
     /// The number of a word, which is put in where it isn't there, and is used once more. It takes no memory.
@@ -90,7 +126,9 @@ impl Words {
         requires uses { (i : ℕ) → uses_at self.old i < 2 ^ 63 }
         ensures { TakesIn self.old self.new text result }
     {
-        let number = self.texts.number_of(text);
+        let found = self.find(text.as_bytes());
+        let hasher = self.hasher;
+        let number = number_of(&mut self.texts, &mut self.hashed, hasher, text, found);
         self.uses[number] += 1;
         number as u32
     }
@@ -105,6 +143,116 @@ impl Words {
         if self.uses[number] == 0 {
             self.texts.remove(number);
         }
+    }
+}
+
+/// The number of a word that was found, or else of one that is put in.
+fn number_of(
+    texts: &mut Ordered<Text>,
+    hashed: &mut HashedNumbers,
+    hasher: RandomState,
+    text: Text,
+    found: Option<u32>,
+) -> usize
+    requires room { 1 ≤ texts.old.room }
+    requires few { length texts.old.slots ≤ 4294967294 }
+    requires once { IsOnce texts.old }
+    requires found { MatchOption found ((i : ℕ) → key_of texts.old i ≢ Some text) (λ number. key_of texts.old number ≡ Some text) }
+    requires met { AreMet (word_hash_at hasher texts.old) hashed.old }
+    ensures numbers { Numbers texts.old texts.new text result }
+    ensures met { AreMet (word_hash_at hasher texts.new) hashed.new }
+{
+    match found {
+        Some(number) => {
+            drop(text);
+            number as usize
+        }
+        None => put_in(texts, hashed, hasher, text),
+    }
+}
+
+/// Puts in a word that isn't there, and its number by its hash.
+fn put_in(
+    texts: &mut Ordered<Text>,
+    hashed: &mut HashedNumbers,
+    hasher: RandomState,
+    text: Text,
+) -> usize
+    requires room { 1 ≤ texts.old.room }
+    requires few { length texts.old.slots ≤ 4294967294 }
+    requires absent { (i : ℕ) → key_of texts.old i ≢ Some text }
+    requires met { AreMet (word_hash_at hasher texts.old) hashed.old }
+    ensures inserts { Inserts texts.old texts.new text result }
+    ensures met { AreMet (word_hash_at hasher texts.new) hashed.new }
+{
+    let hash = hash_of(hasher, text.as_bytes());
+    let number = texts.insert(text);
+    hashed.put(hash, number as u32);
+    number
+}
+
+ghost use Rattle.std.specs.Prelude.{◌≢◌};
+ghost use Rattle.ordered_keys.specs.Keys.{Inserts, IsOnce, Numbers};
+ghost use Rattle.search_index.specs.HashedNumbers.{AreMet};
+
+/// The hash of a word (SipHash-1-3 with the hasher's keys).
+fn hash_of(hasher: RandomState, word: &[u8]) -> u64
+    ensures { result ≡ hash_of hasher word.now }
+{
+    let mut state = hasher.build_hasher();
+    state.write(word);
+    state.finish()
+}
+
+/// The hashes of words.
+#[derive(Drop)]
+struct WordHashes<'a> {
+    texts: &'a Ordered<Text>,
+    hasher: RandomState,
+}
+
+impl<'a> Hashes for WordHashes<'a> {
+    ghost hash = { λ w. word_hash_at w.hasher w.texts.now };
+
+    fn size(&self) -> usize {
+        self.texts.size()
+    }
+
+    fn hash_at(&self, number: usize) -> Option<u64> {
+        match self.texts.get(number) {
+            Some(text) => Some(hash_of(self.hasher, text.as_bytes())),
+            None => None,
+        }
+    }
+}
+
+/// A word that is looked for.
+#[derive(Drop)]
+struct SoughtWord<'a> {
+    texts: &'a Ordered<Text>,
+    word: &'a [u8],
+}
+
+impl<'a> Meant for SoughtWord<'a> {
+    ghost meant = { λ s number. is_word (key_of s.texts.now number) s.word.now };
+
+    fn is(&self, number: u32) -> bool {
+        match self.texts.get(number as usize) {
+            Some(text) => text.as_bytes() == self.word,
+            None => false,
+        }
+    }
+}
+
+/// A word of borrowed bytes.
+#[derive(Drop)]
+struct WordAt<'a>(&'a [u8]);
+
+impl<'a> Probe<Text> for WordAt<'a> {
+    ghost sought = { λ w. w.0.now };
+
+    fn order_of(&self, key: &Text) -> Ordering {
+        key.as_bytes().cmp(self.0)
     }
 }
 

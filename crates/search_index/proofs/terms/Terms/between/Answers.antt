@@ -8,10 +8,10 @@ use Rattle.search_index.proofs.TermLemmas.{between_ok, cut_words}
 use Rattle.search_index.proofs.terms.Terms.between.Goals as goal
 
 pub between-requires-clause-low : goal.between-requires-clause-low
-between-requires-clause-low c = cut_words c.self.inside.words c.self.inside.numbers (term_at c.args.low.now) c.self.invariant.in_order
+between-requires-clause-low c = cut_words c.self.inside.words c.self.inside.numbers (term_at c.args.low.now) c.self.invariant.are.in_order
 
 pub between-requires-clause-high : goal.between-requires-clause-high
-between-requires-clause-high c = cut_words c.self.inside.words c.self.inside.numbers (term_at c.args.high.now) c.self.invariant.in_order
+between-requires-clause-high c = cut_words c.self.inside.words c.self.inside.numbers (term_at c.args.high.now) c.self.invariant.are.in_order
 
 pub returns : goal.returns
 returns c =
