@@ -7,6 +7,7 @@ pub mod EqualKeys
 pub mod HashedLemmas
 pub mod WordLemmas
 pub mod UseLemmas
+pub mod NumberedLemmas
 pub mod TermLemmas
 pub mod GivenLemmas
 pub mod GoneLemmas

@@ -63,7 +63,7 @@ module _ {X : Type 0} (w : Option X → ℕ) (none : w None ≡ 0) where
       let one = sum_by-cons w x xs in let two = sum_by-cons w y ys in omega arith
 
   -- one place changes
-  sum_changed : (xs ys : List (Option X)) (id : ℕ) → length ys ≡ length xs → id < length xs → ((i : ℕ) → i ≢ id → key_in ys i ≡ key_in xs i) → sum_by w ys + w (key_in xs id) ≡ sum_by w xs + w (key_in ys id)
+  pub sum_changed : (xs ys : List (Option X)) (id : ℕ) → length ys ≡ length xs → id < length xs → ((i : ℕ) → i ≢ id → key_in ys i ≡ key_in xs i) → sum_by w ys + w (key_in xs id) ≡ sum_by w xs + w (key_in ys id)
   sum_changed [] ys id size within others = absurd (omega arith)
   sum_changed (x ∷ xs) [] id size within others = absurd (omega arith)
   sum_changed (x ∷ xs) (y ∷ ys) zero size within others =
@@ -75,7 +75,7 @@ module _ {X : Type 0} (w : Option X → ℕ) (none : w None ≡ 0) where
       let one = sum_by-cons w x xs in let two = sum_by-cons w y ys in omega arith
 
   -- each place counts
-  sum_holds : (xs : List (Option X)) (i : ℕ) → w (key_in xs i) ≤ sum_by w xs
+  pub sum_holds : (xs : List (Option X)) (i : ℕ) → w (key_in xs i) ≤ sum_by w xs
   sum_holds [] i = let past : w (key_in [] i) ≡ 0 = ap w (get_or_past [] i None (omega arith)) ∙ none in omega arith
   sum_holds (x ∷ xs) zero = let one = sum_by-cons w x xs in omega arith
   sum_holds (x ∷ xs) (suc i) = let one = sum_by-cons w x xs in let rest = sum_holds xs i in omega arith

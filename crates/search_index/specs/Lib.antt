@@ -6,6 +6,7 @@ pub mod Net
 pub mod Scope
 pub mod KeyOrder
 pub mod HashedNumbers
+pub mod NumberedTexts
 pub mod Hashing
 pub mod Words
 pub mod Terms

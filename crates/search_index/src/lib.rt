@@ -10,6 +10,7 @@ mod index;
 mod key;
 mod merge;
 mod names;
+mod numbered_texts;
 mod places;
 mod posting;
 mod postings;

@@ -6,10 +6,9 @@ ghost use Rattle.search_index.specs.Hashing.{hash_of, word_hash_at};
 
 use crate::hashed_numbers::{End, HashedNumbers, Hashes, Meant};
 use crate::key::MOST_NUMBERS;
+use crate::numbered_texts::NumberedTexts;
 use doc_tree::{NoMemory, Text};
-use ordered_keys::{Ordered, Probe};
 use std::alloc::Global;
-use std::cmp::Ordering;
 use std::hash::{BuildHasher, Hasher, RandomState};
 use std::marker::Model;
 
@@ -17,7 +16,7 @@ use std::marker::Model;
 /// used, and how many more words fit without memory.
 #[derive(Drop)]
 pub(crate) struct Words {
-    texts: Ordered<Text>,
+    texts: NumberedTexts,
     // How often the word under each number is used.
     uses: Vec<usize>,
     // The numbers of the words, by the words' hashes.
@@ -45,7 +44,7 @@ impl Words {
         ensures { result ≡ record { texts = record { slots = []; room = 0 }; uses = [] } }
     {
         Words {
-            texts: Ordered::none(alloc),
+            texts: NumberedTexts::none(alloc),
             uses: Vec::new(alloc),
             hashed: HashedNumbers::none(alloc),
             hasher,
@@ -106,18 +105,22 @@ impl Words {
         match self.hashed.find(hash_of(self.hasher, word), &SoughtWord { texts, word }) {
             End::Number(number) => Some(number),
             End::FreeSlot => None,
-            End::Begin => self.find_in_order(word),
+            End::Begin => self.find_by_looking(word),
         }
     }
 
-    // The number of a word, if it is there, without the hashes.
-    fn find_in_order(&self, word: &[u8]) -> Option<u32>
+    // The number of a word, if it is there: each word is looked at.
+    fn find_by_looking(&self, word: &[u8]) -> Option<u32>
         ensures { MatchOption result (HasNoWord self.now word.now) (λ number. key_of self.now.texts number ≡ Some word.now) }
     {
-        match self.texts.find(&WordAt(word)) {
-            Some(number) => Some(number as u32),
-            None => None,
+        let texts = &self.texts;
+        let sought = SoughtWord { texts, word };
+        for number in 0..texts.size() {
+            if sought.is(number as u32) {
+                return Some(number as u32);
+            }
         }
+        None
     }
 
     /// The number of a word, which is put in where it isn't there, and is used once more. It takes no memory.
@@ -148,7 +151,7 @@ impl Words {
 
 /// The number of a word that was found, or else of one that is put in.
 fn number_of(
-    texts: &mut Ordered<Text>,
+    texts: &mut NumberedTexts,
     hashed: &mut HashedNumbers,
     hasher: RandomState,
     text: Text,
@@ -173,14 +176,13 @@ fn number_of(
 
 /// Puts in a word that isn't there, and its number by its hash.
 fn put_in(
-    texts: &mut Ordered<Text>,
+    texts: &mut NumberedTexts,
     hashed: &mut HashedNumbers,
     hasher: RandomState,
     text: Text,
 ) -> usize
     requires room { 1 ≤ texts.old.room }
     requires few { length texts.old.slots ≤ 4294967294 }
-    requires absent { (i : ℕ) → key_of texts.old i ≢ Some text }
     requires met { AreMet (word_hash_at hasher texts.old) hashed.old }
     ensures inserts { Inserts texts.old texts.new text result }
     ensures met { AreMet (word_hash_at hasher texts.new) hashed.new }
@@ -207,7 +209,7 @@ fn hash_of(hasher: RandomState, word: &[u8]) -> u64
 /// The hashes of words.
 #[derive(Drop)]
 struct WordHashes<'a> {
-    texts: &'a Ordered<Text>,
+    texts: &'a NumberedTexts,
     hasher: RandomState,
 }
 
@@ -229,7 +231,7 @@ impl<'a> Hashes for WordHashes<'a> {
 /// A word that is looked for.
 #[derive(Drop)]
 struct SoughtWord<'a> {
-    texts: &'a Ordered<Text>,
+    texts: &'a NumberedTexts,
     word: &'a [u8],
 }
 
@@ -241,18 +243,6 @@ impl<'a> Meant for SoughtWord<'a> {
             Some(text) => text.as_bytes() == self.word,
             None => false,
         }
-    }
-}
-
-/// A word of borrowed bytes.
-#[derive(Drop)]
-struct WordAt<'a>(&'a [u8]);
-
-impl<'a> Probe<Text> for WordAt<'a> {
-    ghost sought = { λ w. w.0.now };
-
-    fn order_of(&self, key: &Text) -> Ordering {
-        key.as_bytes().cmp(self.0)
     }
 }
 

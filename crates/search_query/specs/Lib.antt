@@ -6,4 +6,5 @@ pub mod Outcomes
 pub mod Parts
 pub mod Partial
 pub mod Pages
+pub mod RowTexts
 pub mod Laws

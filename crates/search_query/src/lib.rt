@@ -17,6 +17,6 @@ pub use fault::PartialFault;
 pub use flatten::pairs;
 pub use laws::rows_have_the_keys;
 pub use matching::{is_wanted, matches};
-pub use pages::{page_text, shown};
+pub use pages::{RowText, page_text, shown};
 pub use pair::{Pair, Pairs};
 pub use partial::Partial;

@@ -5,12 +5,70 @@ ghost use Rattle.doc_tree.specs.Tree.{doc_of};
 ghost use Rattle.doc_tree.specs.Written.{text};
 ghost use Rattle.search_query.specs.Pages as spec;
 
+use compact_json::CompactJson;
 use doc_tree::{Bytes, NoMemory, Number, Text, Tree, json_text};
 use std::alloc::Global;
+use std::marker::Model;
+
+/// The text of a row: that of an object as it is kept, which is lent, or one that was made. Contracts see its bytes.
+#[derive(Drop)]
+pub struct RowText<'a> {
+    held: HeldText<'a>,
+}
+
+#[derive(Drop)]
+enum HeldText<'a> {
+    Kept(&'a CompactJson),
+    Made(Bytes),
+}
+
+impl<'a> Model for RowText<'a> {
+    ghost use Rattle.std.specs.Prelude.{List, ℕ};
+    ghost use Rattle.search_query.specs.RowTexts.{held_text};
+
+    ghost Value = { List ℕ };
+
+    ghost view = { λ r. held_text r.held };
+}
+
+impl<'a> RowText<'a> {
+    /// The row that shows an object whole: its text isn't copied.
+    pub fn kept(object: &'a CompactJson) -> RowText<'a>
+        ensures { result ≡ text object.now }
+    {
+        RowText {
+            held: HeldText::Kept(object),
+        }
+    }
+
+    /// The row of a text that was made.
+    pub fn made(written: Bytes) -> RowText<'a>
+        ensures { result ≡ written }
+    {
+        RowText {
+            held: HeldText::Made(written),
+        }
+    }
+
+    /// The text, as a slice that borrows it.
+    fn as_slice(&self) -> &[u8]
+        ensures { result.now ≡ self.now }
+    {
+        match &self.held {
+            HeldText::Kept(object) => object.as_bytes(),
+            HeldText::Made(written) => written.as_slice(),
+        }
+    }
+}
 
 /// The text of the page that shows rows, by their own texts: `{"rows":[..],"start":START,"total":TOTAL}`. The rows are
-/// those from the place `start` on, of `total` in all. Want of memory is the one refusal.
-pub fn page_text(alloc: Global, rows: &[Bytes], start: u64, total: usize) -> Result<Bytes, NoMemory>
+/// those from the place `start` on, of `total` in all. Each row is copied once. Want of memory is the one refusal.
+pub fn page_text(
+    alloc: Global,
+    rows: &[RowText<'_>],
+    start: u64,
+    total: usize,
+) -> Result<Bytes, NoMemory>
     ensures { IfOk result (λ bytes. (docs : List Doc) → rows.now ≡ map text docs → bytes ≡ text (spec.page_doc docs start total)) }
 {
     let mut out = Vec::new(alloc);
@@ -46,7 +104,7 @@ fn add_count(out: &mut Vec<u8>, key: &str, count: u64) -> Result<(), NoMemory>
 }
 
 /// Adds the texts of rows, with commas between.
-fn add_rows(out: &mut Vec<u8>, rows: &[Bytes]) -> Result<(), NoMemory>
+fn add_rows(out: &mut Vec<u8>, rows: &[RowText<'_>]) -> Result<(), NoMemory>
     ensures { OnOk result (out.new.items ≡ out.old.items ++ spec.with_commas rows.now) }
 {
     match rows.split_first() {
@@ -59,7 +117,7 @@ fn add_rows(out: &mut Vec<u8>, rows: &[Bytes]) -> Result<(), NoMemory>
 }
 
 /// Adds the texts of rows behind another, each with a comma before it.
-fn add_behind(out: &mut Vec<u8>, rows: &[Bytes]) -> Result<(), NoMemory>
+fn add_behind(out: &mut Vec<u8>, rows: &[RowText<'_>]) -> Result<(), NoMemory>
     ensures { OnOk result (out.new.items ≡ out.old.items ++ spec.behind rows.now) }
 {
     for row in rows {

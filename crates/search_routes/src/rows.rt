@@ -14,11 +14,11 @@ ghost use Rattle.search_routes.specs.Finding as spec;
 
 use crate::operations::Search;
 use compact_json::CompactJson;
-use doc_tree::{Bytes, NoMemory, Steps, Text, Tree, json_text};
+use doc_tree::{NoMemory, Steps, Text, Tree, json_text};
 use object_finder::Index;
 use org_core::{Context, Moves, Prepared};
 use org_requests::{Reply, org_uri};
-use search_query::{Partial, page_text, shown};
+use search_query::{Partial, RowText, page_text, shown};
 use std::alloc::Global;
 use std::sync::ledger::Ledger;
 
@@ -48,14 +48,14 @@ pub(crate) fn show_page<L: Ledger>(
 }
 
 // The texts of the rows.
-fn rows_of<L: Ledger>(
+fn rows_of<'c, L: Ledger>(
     alloc: Global,
-    context: Context<'_>,
+    context: Context<'c>,
     index: &Index,
     partial: &Option<Partial>,
     names: &[Text],
     steps: &mut Steps<L>,
-) -> Result<Vec<Bytes>, NoMemory>
+) -> Result<Vec<RowText<'c>>, NoMemory>
     ensures rows { IfOk result (λ rows. rows.items ≡ map text (spec.rows_of (seen context.entry) index.now partial.now names.now)) }
     ensures looked { Looked result (length names.now) steps.old steps.new }
 {
@@ -66,24 +66,24 @@ fn rows_of<L: Ledger>(
     Ok(rows)
 }
 
-fn row_of<L: Ledger>(
+fn row_of<'c, L: Ledger>(
     alloc: Global,
-    context: Context<'_>,
+    context: Context<'c>,
     index: &Index,
     partial: &Option<Partial>,
     name: &str,
     steps: &mut Steps<L>,
-) -> Result<Bytes, NoMemory>
+) -> Result<RowText<'c>, NoMemory>
     ensures row { IfOk result (λ row. row ≡ text (spec.row_of (seen context.entry) index.now partial.now name.now)) }
     ensures looked { steps.new ≡ steps.old + 1 }
 {
     let object = look_up(context, index, name, steps);
     match partial {
         None => whole(alloc, object),
-        Some(partial) => json_text(
-            alloc,
-            &part(alloc, context.org, index, partial, name, object)?,
-        ),
+        Some(partial) => {
+            let row = part(alloc, context.org, index, partial, name, object)?;
+            Ok(RowText::made(json_text(alloc, &row)?))
+        }
     }
 }
 
@@ -100,13 +100,13 @@ fn look_up<'c, L: Ledger>(
     object_finder::look_up(context.state.objects(), index, name, steps)
 }
 
-// The text of the row that shows the whole object, which is copied. One that was found is there.
-fn whole(alloc: Global, object: Option<&CompactJson>) -> Result<Bytes, NoMemory>
+// The text of the row that shows the whole object, which is lent. One that was found is there.
+fn whole(alloc: Global, object: Option<&CompactJson>) -> Result<RowText<'_>, NoMemory>
     ensures { IfOk result (λ row. row ≡ text (unwrap_or (option_copied object.entry) null)) }
 {
     match object {
-        Some(object) => object.bytes(alloc),
-        None => json_text(alloc, &Tree::Null),
+        Some(object) => Ok(RowText::kept(object)),
+        None => Ok(RowText::made(json_text(alloc, &Tree::Null)?)),
     }
 }
 

@@ -2,11 +2,8 @@
 use Rattle.std.proofs.Common.{◌∙◌, ap, subst}
 use Rattle.search_index.specs.HashedNumbers.{IsMet}
 use Rattle.search_index.specs.Hashing.{hash_of}
-use Rattle.search_index.proofs.WordLemmas.{absent_word, words_met_with}
+use Rattle.search_index.proofs.WordLemmas.{words_met_with}
 use Rattle.search_index.proofs.words.put_in.Goals as goal
-
-pub insert-number-requires-clause-absent : goal.insert-number-requires-clause-absent
-insert-number-requires-clause-absent c = absent_word c.args.texts.now c.args.text c.requires.absent
 
 pub returns-clause-met : goal.returns-clause-met
 returns-clause-met c =
