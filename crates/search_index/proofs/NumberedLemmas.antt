@@ -11,9 +11,6 @@ use Rattle.search_index.specs.NumberedTexts.{AreNumbered, one_there}
 use Rattle.search_index.proofs.UseLemmas.{sum_changed, sum_holds}
 use Rattle.search_index.proofs.WordLemmas.{never_none, some_of, within}
 
-
-
-
 pub none_numbered : (slots : List (Option (List ℕ))) (free : List ℕ) (capacity : ℕ) → slots ≡ [] → free ≡ [] → AreNumbered slots free capacity
 none_numbered slots free capacity one two = subst (λ (z : List (Option (List ℕ))). AreNumbered z free capacity) (sym one) (subst (λ z. AreNumbered [] z capacity) (sym two) (record {
   none = λ i a. absurd a;

@@ -120,7 +120,8 @@ impl Terms {
             value: self.words.take_in(value),
         };
         let number = self.numbers.insert(&ByWords { words: &self.words }, term);
-        self.hashed.put(term_hash(self.hasher, &term), number as u32);
+        self.hashed
+            .put(term_hash(self.hasher, &term), number as u32);
         number
     }
 
@@ -173,7 +174,10 @@ impl Terms {
             numbers: &self.numbers,
             term: term_numbers,
         };
-        match self.hashed.find(term_hash(self.hasher, &term_numbers), &sought) {
+        match self
+            .hashed
+            .find(term_hash(self.hasher, &term_numbers), &sought)
+        {
             End::Number(number) => Some(number as usize),
             End::FreeSlot => None,
             End::Begin => self.find_in_order(term),

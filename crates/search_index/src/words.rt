@@ -102,7 +102,10 @@ impl Words {
         ensures { MatchOption result (HasNoWord self.now word.now) (λ number. key_of self.now.texts number ≡ Some word.now) }
     {
         let texts = &self.texts;
-        match self.hashed.find(hash_of(self.hasher, word), &SoughtWord { texts, word }) {
+        match self
+            .hashed
+            .find(hash_of(self.hasher, word), &SoughtWord { texts, word })
+        {
             End::Number(number) => Some(number),
             End::FreeSlot => None,
             End::Begin => self.find_by_looking(word),

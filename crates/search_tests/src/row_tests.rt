@@ -1,7 +1,7 @@
 //! What no clause of `search_query` says of rows and pages: that the calls succeed, and that the definitions are those of the product.
 use compact_json::CompactJson;
 use doc_tree::{Kind, Text, Tree, json_text, read_json};
-use search_query::{Partial, PartialFault, page_text, shown};
+use search_query::{Partial, PartialFault, RowText, page_text, shown};
 use std::alloc::Global;
 use std::test::Fail;
 
@@ -81,11 +81,29 @@ fn row_line(alloc: Global, line: &str) -> Result<String, Fail> {
     Ok(format!(in alloc; "{asked} => {told}")?)
 }
 
-fn page_told(alloc: Global, found: &[&str], start: u64, rows: u64) -> Result<String, Fail> {
-    let mut texts = Vec::new(alloc);
-    for word in shown(found, start, rows) {
+// The objects that a page shows, as they are kept.
+fn kept(alloc: Global, words: &[&str]) -> Result<Vec<CompactJson>, Fail> {
+    let mut objects = Vec::new(alloc);
+    for word in words {
         let tree = Tree::Words(Text::from_str(alloc, word)?);
-        texts.push(json_text(alloc, &tree)?)?;
+        objects.push(CompactJson::of(alloc, &tree)?)?;
+    }
+    Ok(objects)
+}
+
+// Every other row is lent, and the others are made.
+fn row_text(alloc: Global, index: usize, object: &CompactJson) -> Result<RowText<'_>, Fail> {
+    if index % 2 == 0 {
+        return Ok(RowText::kept(object));
+    }
+    Ok(RowText::made(object.bytes(alloc)?))
+}
+
+fn page_told(alloc: Global, found: &[&str], start: u64, rows: u64) -> Result<String, Fail> {
+    let objects = kept(alloc, shown(found, start, rows))?;
+    let mut texts = Vec::new(alloc);
+    for (index, object) in objects.iter().enumerate() {
+        texts.push(row_text(alloc, index, object)?)?;
     }
     let page = page_text(alloc, &texts, start, found.len())?;
     Ok(String::from_utf8_lossy(alloc, page.as_slice())?)

@@ -4,6 +4,7 @@ use query_text::{Query, read_query};
 use search_index::{Index, Scope, ScopeAt};
 use search_query::{Pairs, pairs};
 use std::alloc::Global;
+use std::hash::RandomState;
 use std::test::Fail;
 
 // Objects, each called by a letter: nodes but for the last, which is an environment.
@@ -268,50 +269,50 @@ fn often_in(alloc: Global, index: &mut Index) -> Result<String, Fail> {
 }
 
 // What the worked objects find otherwise.
-fn worked_otherwise(alloc: Global) -> Result<String, Fail> {
-    let mut index = Index::none(alloc);
+fn worked_otherwise(alloc: Global, hasher: RandomState) -> Result<String, Fail> {
+    let mut index = Index::none(alloc, hasher);
     worked_in(alloc, &mut index)
 }
 
-fn often_otherwise(alloc: Global) -> Result<String, Fail> {
-    let mut index = Index::none(alloc);
+fn often_otherwise(alloc: Global, hasher: RandomState) -> Result<String, Fail> {
+    let mut index = Index::none(alloc, hasher);
     often_in(alloc, &mut index)
 }
 
-fn scopes_otherwise(alloc: Global) -> Result<String, Fail> {
-    let mut index = Index::none(alloc);
+fn scopes_otherwise(alloc: Global, hasher: RandomState) -> Result<String, Fail> {
+    let mut index = Index::none(alloc, hasher);
     script_otherwise(alloc, &mut index, SCOPES)
 }
 
-fn shared_otherwise(alloc: Global) -> Result<String, Fail> {
-    let mut index = Index::none(alloc);
+fn shared_otherwise(alloc: Global, hasher: RandomState) -> Result<String, Fail> {
+    let mut index = Index::none(alloc, hasher);
     script_otherwise(alloc, &mut index, SHARED)
 }
 
 #[test]
 fn queries_find_what_the_rules_say(rt: HostRuntime) -> Result<(), Fail> {
-    let otherwise = worked_otherwise(rt.alloc())?;
+    let otherwise = worked_otherwise(rt.alloc(), RandomState::new(&rt)?)?;
     assert_eq!(rt; otherwise.as_str(), "");
     Ok(())
 }
 
 #[test]
 fn objects_of_other_scopes_stay(rt: HostRuntime) -> Result<(), Fail> {
-    let otherwise = scopes_otherwise(rt.alloc())?;
+    let otherwise = scopes_otherwise(rt.alloc(), RandomState::new(&rt)?)?;
     assert_eq!(rt; otherwise.as_str(), "");
     Ok(())
 }
 
 #[test]
 fn fields_and_values_stay_while_an_object_has_them(rt: HostRuntime) -> Result<(), Fail> {
-    let otherwise = shared_otherwise(rt.alloc())?;
+    let otherwise = shared_otherwise(rt.alloc(), RandomState::new(&rt)?)?;
     assert_eq!(rt; otherwise.as_str(), "");
     Ok(())
 }
 
 #[test]
 fn an_object_that_is_saved_often_has_its_last_pairs(rt: HostRuntime) -> Result<(), Fail> {
-    let otherwise = often_otherwise(rt.alloc())?;
+    let otherwise = often_otherwise(rt.alloc(), RandomState::new(&rt)?)?;
     assert_eq!(rt; otherwise.as_str(), "");
     Ok(())
 }

@@ -12,6 +12,7 @@ use query_text::Query;
 use search_index::{Index, Scope as SiteScope, ScopeAt};
 use search_query::Pairs;
 use std::alloc::Global;
+use std::hash::RandomState;
 use std::sync::ledger::Ledger;
 
 /// The finder that keeps the pairs of all objects of all organisations, and reads no object.
@@ -24,14 +25,14 @@ pub struct Indexed {
 }
 
 impl Indexed {
-    /// The finder that holds nothing: it is exact for each organisation without objects. It has no room, and takes no
-    /// memory.
-    pub fn none(alloc: Global) -> Indexed
+    /// The finder that holds nothing: it is exact for each organisation without objects. Its words are hashed by this
+    /// hasher, which changes nothing that is found. It has no room, and takes no memory.
+    pub fn none(alloc: Global, hasher: RandomState) -> Indexed
         ensures held { ⟦<Indexed as Finder>⟧.held result ≡ Some nothing }
         ensures exact { (org : List ℕ) → IsExact (⟦<Indexed as Finder>⟧.held result) org finite.empty }
     {
         Indexed {
-            index: Index::none(alloc),
+            index: Index::none(alloc, hasher),
         }
     }
 }

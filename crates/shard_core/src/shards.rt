@@ -63,7 +63,7 @@ impl Shard {
         Shard {
             organisations: IndexMap::with_hasher(alloc, hasher),
             files: Files::none(alloc),
-            index: Indexed::none(alloc),
+            index: Indexed::none(alloc, hasher),
             hasher,
         }
     }
