@@ -4,7 +4,9 @@ use Rattle.std.proofs.lemmas.Bool.{cases_eq, eqb-true, eq-eqb}
 use Rattle.std.proofs.lemmas.List.{get_or_past, length-map}
 use Rattle.std.proofs.lemmas.Result.{on_err_weaker}
 use Rattle.std.specs.Global.{Vec}
-use Rattle.std.specs.Cmp.{tied_itself}
+use Rattle.std.specs.Cmp.{nat_cmp_total, tied_itself}
+use Rattle.std.specs.Cmp.Lexicographic.{nat_list_cmp_total, slice_cmp}
+use Rattle.std.specs.Ordering.{nat_cmp, ordering_then}
 use Rattle.std.specs.declared.cmp.Ordering.{Ordering}
 use Rattle.std.specs.declared.cmp.Ordering.TheVariants.{Less, Equal, Greater}
 use Rattle.ordered_keys.specs.Numbers.{Loses}
@@ -452,3 +454,11 @@ grown_terms a b v w hashed hasher more terms kept same grows less order few =
       kept = record { are = made.are; met = terms_met hasher a b hashed (λ i t is. sym (grows.same i) ∙ is) kept.met };
       makes = made.makes;
     }
+
+-- ---- the order of terms of one field
+
+pub one_field : (v : Vocabulary) (x y : TermNumbers) → x.scope ≡ y.scope → x.field ≡ y.field → term_cmp (term_in v x) (term_in v y) ≡ slice_cmp nat_cmp (word_at v x.value) (word_at v y.value)
+one_field v x y scope field =
+    let values : Ordering = slice_cmp nat_cmp (word_at v x.value) (word_at v y.value) in
+    ap₂ ordering_then (ap (nat_cmp x.scope) (sym scope) ∙ tied_itself nat_cmp_total x.scope)
+    (ap (λ o. ordering_then o values) (ap (slice_cmp nat_cmp (word_at v x.field)) (ap (word_at v) (sym field)) ∙ tied_itself nat_list_cmp_total (word_at v x.field)))

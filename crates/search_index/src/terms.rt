@@ -290,6 +290,11 @@ impl<'a> Ranking<TermNumbers> for ByWords<'a> {
     ghost cmp = { λ r x y. term_cmp (term_in r.words.now x) (term_in r.words.now y) };
 
     fn compare(&self, item: &TermNumbers, other: &TermNumbers) -> Ordering {
+        if item.scope == other.scope && item.field == other.field {
+            // Terms of one field stand side by side: its word isn't looked at.
+            let words = self.words;
+            return words.word(item.value).cmp(words.word(other.value));
+        }
         parts_of(self.words, item).order_to(&parts_of(self.words, other))
     }
 }
