@@ -1,5 +1,5 @@
 -- `is_permitted` is the truth value of `Permitted`.
-use Rattle.std.proofs.Common.{◌≡◌, ◌↔◌, ◌<◌, inl, inr, Bool, true, false, ℕ, zero, suc, List, [], ◌∷◌, length, slice_index_or, bytes_eq, IsTrue, Contains, refl, sym, ap, subst, ◌∙◌, ◌||◌, true≢false, arith}
+use Rattle.std.proofs.Common.{◌≡◌, ◌↔◌, ◌<◌, inl, inr, Any, Bool, true, false, ℕ, zero, suc, List, [], ◌∷◌, length, slice_index_or, bytes_eq, IsTrue, Contains, refl, sym, ap, subst, ◌∙◌, ◌||◌, true≢false, arith}
 use Rattle.std.specs.Cmp.Lexicographic.{bytes_decides}
 use Rattle.std.specs.List.{list_any}
 use Rattle.std.proofs.lemmas.List.Folds.{Any-from_list_any, list_any-from_Any}
@@ -8,6 +8,7 @@ use Rattle.membership.specs.TextSets.{lists}
 use Rattle.membership.specs.Members.{Membership}
 use Rattle.membership.specs.Belonging.{belongs, Belongs}
 use Rattle.membership.specs.Actors.{operator}
+use Rattle.membership.proofs.BelongingLemmas.{belonging_is_told}
 use Rattle.access_lists.specs.declared.acl.Entry.{Entry}
 use Rattle.access_lists.specs.Permitted.{Permitted, is_permitted}
 
@@ -35,20 +36,26 @@ third true b c is = refl
 third false true c is = refl
 third false false c is = is
 
+-- an element that has one fact has another
+Any-as : (P Q : List ℕ → Type 0) → ((x : List ℕ) → P x → Q x) → (xs : List (List ℕ)) → Any P xs → Any Q xs
+Any-as P Q f xs any = (any.0, any.1, any.2, any.3, f any.1 any.4)
+
 -- who is permitted is the operator, an actor, or a member of a group
 permits : (membership : Membership) (entry : Entry) (caller : List ℕ) (a b c : Bool) → bytes_eq caller operator ≡ a → lists entry.actors caller ≡ b → list_any (belongs membership caller) entry.groups ≡ c
     → (a || (b || c)) ≡ true → Permitted membership entry caller
-unfolding Belongs
 permits membership entry caller true b c same actor group is = inl ((bytes_decides caller operator).0 same)
 permits membership entry caller false true c same actor group is = inr (inl (Contains-lists entry.actors caller actor))
-permits membership entry caller false false c same actor group is = inr (inr (Any-from_list_any (belongs membership caller) entry.groups (group ∙ is)))
+permits membership entry caller false false c same actor group is =
+    inr (inr (Any-as (λ name. belongs membership caller name ≡ true) (Belongs membership caller) (λ name. (belonging_is_told membership caller name).0) entry.groups
+    (Any-from_list_any (belongs membership caller) entry.groups (group ∙ is))))
 
 -- and each of these is
 permitted_is : (membership : Membership) (entry : Entry) (caller : List ℕ) → Permitted membership entry caller → is_permitted membership entry caller ≡ true
-unfolding Belongs
 permitted_is membership entry caller (inl same) = ap (λ b. b || (lists entry.actors caller || list_any (belongs membership caller) entry.groups)) ((bytes_decides caller operator).1 same)
 permitted_is membership entry caller (inr (inl actor)) = second (bytes_eq caller operator) _ (list_any (belongs membership caller) entry.groups) (lists-at entry.actors caller actor.0 actor.1 actor.2)
-permitted_is membership entry caller (inr (inr group)) = third (bytes_eq caller operator) (lists entry.actors caller) _ (list_any-from_Any (belongs membership caller) entry.groups group)
+permitted_is membership entry caller (inr (inr group)) = third (bytes_eq caller operator) (lists entry.actors caller) _
+    (list_any-from_Any (belongs membership caller) entry.groups
+    (Any-as (Belongs membership caller) (λ name. belongs membership caller name ≡ true) (λ name. (belonging_is_told membership caller name).1) entry.groups group))
 
 pub permission_decided : (membership : Membership) (entry : Entry) (caller : List ℕ) → IsTrue (is_permitted membership entry caller) ↔ Permitted membership entry caller
 permission_decided membership entry caller =

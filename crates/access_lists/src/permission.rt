@@ -11,8 +11,9 @@ use doc_tree::Text;
 use membership::{Groups, is_operator};
 
 /// Whether a caller may do to an object of this access list what the permission is of: the caller is
-/// `pivotal`, or one of the entry's actors, or belongs to one of its groups. It takes no memory, and as
-/// many look-ups by hash as the entry has groups, whatever the number of their members.
+/// `pivotal`, or one of the entry's actors, or belongs to one of its groups, be it through groups within
+/// it. It takes no memory, and three look-ups by hash for each of its groups and two for each to which
+/// that leads, whatever the number of their members.
 pub fn permitted(groups: &Groups, acl: AclAt<'_>, perm: Perm, caller: &Text) -> bool
     ensures set { IsTrue result ↔ Permitted groups.now.membership (entry_of perm acl.entry) caller.now }
     ensures value { result ≡ is_permitted groups.now.membership (entry_of perm acl.entry) caller.now }

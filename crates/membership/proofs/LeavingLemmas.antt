@@ -1,8 +1,9 @@
 -- What is left of groups when each is changed where it stands.
-use Rattle.std.proofs.Common.{◌≡◌, ◌≤◌, Bool, true, false, cond, ℕ, List, [], ◌∷◌, Option, Some, option_map, unwrap_or, bytes_eq, sym, ap, subst, ◌∙◌, arith}
+use Rattle.std.proofs.Common.{◌≡◌, ◌≤◌, Bool, true, false, cond, ℕ, suc, List, [], ◌∷◌, length, Option, Some, option_map, unwrap_or, bytes_eq, sym, ap, subst, ◌∙◌, arith}
 use Rattle.std.specs.Cmp.Lexicographic.{nat_list_cmp_total}
 use Rattle.std.specs.Map.{lookup}
 use Rattle.std.specs.Map.Calls.{RetainsPairs}
+use Rattle.membership.specs.Leading.{listing, KeepsLists}
 use Rattle.membership.specs.Members.{Members}
 use Rattle.membership.specs.MapValues.{map_values}
 use Rattle.membership.specs.Rooms.{KeptGroup, Entries, groups_seen, rooms_seen, room_of}
@@ -60,3 +61,15 @@ module _ {F : Type 0} (Step : F → List ℕ → KeptGroup → Bool → KeptGrou
       let now : room_of (rooms_seen kept) name ≡ spare_at (lookup (bytes_eq name) kept) = ap (λ (o : Option ℕ). unwrap_or o 0) (get-shown (λ g. g.spare) kept name) in
       let more = room_kept es kept h name in
       omega (arith, old, now, more)
+
+  -- as many groups are kept
+  pub length_retained : (es kept : Entries) → RetainsPairs Step f es kept → length kept ≡ length es
+  length_retained [] kept h = ap length h
+  length_retained (e ∷ es) kept h = ap length (first_kept e es kept h) ∙ ap suc (length_retained es h.3 (others_kept e es kept h))
+
+  -- and list what they did, where the change leaves that as it is
+  pub lists_retained : ((members : Members) → (change members).groups ≡ members.groups) → (es kept : Entries) → RetainsPairs Step f es kept → KeepsLists es kept
+  lists_retained same [] kept h = ap listing h
+  lists_retained same (e ∷ es) kept h =
+      ap listing (first_kept e es kept h)
+      ∙ (λ i. (e.0, (ap (λ (m : Members). m.groups) (says e.0 e.1 h.0 h.1 h.2 h.4).1 ∙ same e.1.members) i) ∷ lists_retained same es h.3 (others_kept e es kept h) i)

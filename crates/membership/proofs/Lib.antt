@@ -8,3 +8,7 @@ pub mod MemberNamesLemmas
 pub mod LeavingLemmas
 pub mod CopyingLemmas
 pub mod ListsLemmas
+pub mod BelongingLemmas
+pub mod LeadingLemmas
+pub mod PlacesLemmas
+pub mod KeepingLemmas

@@ -8,6 +8,7 @@ pub mod Actors
 pub mod Lists
 pub mod Changes
 pub mod Rooms
+pub mod Leading
 pub mod NameSets
 pub mod StartingGroups
 pub mod Laws

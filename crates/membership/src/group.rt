@@ -1,5 +1,6 @@
 //! One group.
-ghost use Rattle.std.specs.Prelude.{◌≡◌, ◌+◌, ◌<◌, ◌≤◌, Some, IfOk, OnOk};
+ghost use Rattle.std.specs.Prelude.{◌≡◌, ◌+◌, ◌<◌, ◌≤◌, Some, IfOk, IsTrue, OnOk, false};
+ghost use Rattle.std.specs.FinSet as set;
 ghost use Rattle.membership.specs.Belonging.{is_member};
 ghost use Rattle.membership.specs.Changes.{joined, left};
 ghost use Rattle.doc_tree.specs.Valid.{InOrder};
@@ -137,6 +138,27 @@ impl Group {
         ensures { result ≡ is_member caller.now (Some self.now.members) }
     {
         self.users.contains(caller) || self.clients.contains(caller)
+    }
+
+    /// Whether a group of this name is within it.
+    pub(crate) fn lists(&self, name: &Text) -> bool
+        ensures { result ≡ set.contains self.now.members.groups name.now }
+    {
+        self.lists_any() && self.groups.contains(name)
+    }
+
+    /// Whether another has the same groups within it.
+    pub(crate) fn lists_alike(&self, other: &Group) -> bool
+        ensures { IsTrue result → self.now.members.groups ≡ other.now.members.groups }
+    {
+        self.groups.is_same(&other.groups)
+    }
+
+    /// Whether any group is within it.
+    pub(crate) fn lists_any(&self) -> bool
+        ensures { result ≡ false → self.now.members.groups ≡ set.empty }
+    {
+        !self.groups.is_empty()
     }
 
     /// Makes room for at least `count` further members of each kind.

@@ -1,15 +1,20 @@
 //! The groups of an organisation, by their names.
-ghost use Rattle.std.specs.Prelude.{ℕ, List, ◌≡◌, ◌+◌, ◌<◌, ◌≤◌, IfOk, OnOk, IsTrue, is_some};
+ghost use Rattle.std.specs.Prelude.{ℕ, List, ◌≡◌, ◌+◌, ◌<◌, ◌≤◌, IfOk, OnOk, IsTrue, is_some, bytes_eq, length};
 ghost use Rattle.std.specs.FinMap as finite;
-ghost use Rattle.indexmap.specs.IndexMap.{spare};
-ghost use Rattle.membership.specs.Belonging.{is_member};
+ghost use Rattle.indexmap.specs.IndexMap.{insert_entry, spare};
+ghost use Rattle.membership.specs.Belonging.{belongs_among};
 ghost use Rattle.doc_tree.specs.Valid.{InOrder};
 ghost use Rattle.membership.specs.Changes.{changed, joined, left, left_all};
+ghost use Rattle.membership.specs.Leading.{KeepsLists, UnlessGroup};
 ghost use Rattle.membership.specs.Lists.{members_in, with_rows};
 ghost use Rattle.membership.specs.MemberNames.{members_named};
 ghost use Rattle.membership.specs.Rooms.{groups_seen, rooms_seen, room_of, OthersKeepRoom};
 
 use crate::group::Group;
+use crate::leading::{
+    Hashed, follow, is_member_from, lists_alike, reserve_square, work_out, work_out_unless,
+    worked_out,
+};
 use crate::lists::GroupRow;
 use crate::member_kind::MemberKind;
 use crate::text_set::TextSet;
@@ -19,14 +24,16 @@ use std::alloc::Global;
 use std::hash::RandomState;
 use std::marker::Model;
 
-/// Groups by the hashes of their names.
-type Hashed = IndexMap<Text, Group, RandomState>;
-
 /// Groups by their names, with room for a number of further ones. Contracts see the finite map of
 /// their members, the room in each and the room for more of them.
+///
+/// Which group leads to which is kept worked out, by the places of the groups.
 #[derive(Drop)]
 pub(crate) struct GroupMap {
     items: Hashed,
+    /// The number of groups for which `cells` has room.
+    most: usize,
+    cells: Vec<bool>,
 }
 
 impl Model for GroupMap {
@@ -36,10 +43,18 @@ impl Model for GroupMap {
 
     ghost coded = { kept_groups_code };
 
+    ghost use Rattle.std.specs.Prelude.{◌-◌, length, vec_capacity};
     ghost use Rattle.indexmap.specs.IndexMap.{spare};
-    ghost use Rattle.membership.specs.Rooms.{groups_seen, rooms_seen};
+    ghost use Rattle.membership.specs.Leading.{IsWorkedOut};
+    ghost use Rattle.membership.specs.Rooms.{groups_seen, rooms_seen, smaller};
 
-    ghost view = { λ m. record { groups = groups_seen m.items.entries; rooms = rooms_seen m.items.entries; spare = spare m.items } };
+    ghost view = { λ m. record {
+      groups = groups_seen m.items.entries;
+      rooms = rooms_seen m.items.entries;
+      spare = smaller (spare m.items) (m.most - length m.items.entries);
+    } };
+
+    ghost invariant = { λ m. IsWorkedOut m.items.entries m.most (vec_capacity m.cells) m.cells.items };
 }
 
 impl GroupMap {
@@ -49,6 +64,8 @@ impl GroupMap {
     {
         GroupMap {
             items: IndexMap::with_hasher(alloc, hasher),
+            most: 0,
+            cells: Vec::new(alloc),
         }
     }
 
@@ -60,17 +77,14 @@ impl GroupMap {
     ) -> Result<GroupMap, NoMemory>
         ensures { IfOk result (λ m. m.groups ≡ with_rows finite.empty rows.now) }
     {
-        let mut items = IndexMap::with_capacity_and_hasher(alloc, rows.len(), hasher)?;
-        add_rows(alloc, hasher, rows, &mut items).and(Ok(GroupMap { items }))
+        with_items(alloc, rows_items(alloc, hasher, rows)?)
     }
 
     /// Equal groups with memory of their own, and room for no more.
     pub(crate) fn copy(&self, alloc: Global) -> Result<GroupMap, NoMemory>
         ensures { IfOk result (λ m. m.groups ≡ self.now.groups) }
     {
-        Ok(GroupMap {
-            items: copy_items(alloc, &self.items)?,
-        })
+        with_items(alloc, copy_items(alloc, &self.items)?)
     }
 
     /// Copies the groups of these rows in place of its own.
@@ -125,12 +139,12 @@ impl GroupMap {
         self.items.contains_key(name)
     }
 
-    /// Whether a caller is a user or client of a group.
-    pub(crate) fn is_member(&self, caller: &Text, name: &Text) -> bool
-        ensures { result ≡ is_member caller.now (finite.get self.now.groups name.now) }
+    /// Whether a caller belongs to a group. It takes no memory.
+    pub(crate) fn belongs(&self, caller: &Text, name: &Text) -> bool
+        ensures { result ≡ belongs_among self.now.groups caller.now name.now }
     {
-        match self.items.get(name) {
-            Some(group) => group.is_member(caller),
+        match self.items.get_index_of(name) {
+            Some(place) => is_member_from(&self.items, self.cells.as_slice(), place, caller),
             None => false,
         }
     }
@@ -143,7 +157,7 @@ impl GroupMap {
         ensures spare { self.old.spare ≤ self.new.spare }
     {
         self.items.reserve(count)?;
-        Ok(())
+        reserve_square(self.items.len(), count, &mut self.most, &mut self.cells)
     }
 
     /// Makes room in a group for at least `count` further members of each kind.
@@ -154,10 +168,7 @@ impl GroupMap {
         ensures others { OthersKeepRoom name.now self.old.rooms self.new.rooms }
         ensures spare { self.new.spare ≡ self.old.spare }
     {
-        let Some(group) = self.items.get_mut(name) else {
-            return Ok(());
-        };
-        group.reserve(count)
+        reserve_in(&mut self.items, name, count)
     }
 
     /// Puts a member into a group. It takes no memory.
@@ -168,10 +179,8 @@ impl GroupMap {
         ensures others { OthersKeepRoom name.now self.old.rooms self.new.rooms }
         ensures spare { self.new.spare ≡ self.old.spare }
     {
-        let Some(group) = self.items.get_mut(name) else {
-            return;
-        };
-        group.join(kind, member);
+        join(&mut self.items, name, kind, member);
+        follow(kind, &self.items, &mut self.cells);
     }
 
     /// Takes a member out of a group, if both are there. It takes no memory.
@@ -181,10 +190,8 @@ impl GroupMap {
         ensures others { OthersKeepRoom name.now self.old.rooms self.new.rooms }
         ensures spare { self.new.spare ≡ self.old.spare }
     {
-        let Some(group) = self.items.get_mut(name) else {
-            return;
-        };
-        group.leave(kind, member);
+        leave(&mut self.items, name, kind, member);
+        follow(kind, &self.items, &mut self.cells);
     }
 
     /// Takes a member out of every group. It takes no memory.
@@ -193,21 +200,21 @@ impl GroupMap {
         ensures rooms { (name : List ℕ) → room_of self.old.rooms name ≤ room_of self.new.rooms name }
         ensures spare { self.old.spare ≤ self.new.spare }
     {
-        // Every group stays: `retain` reaches each where it stands.
-        self.items.retain(|_, group| {
-            group.leave(kind, member);
-            true
-        });
+        leave_all(&mut self.items, kind, member);
+        follow(kind, &self.items, &mut self.cells);
     }
 
-    /// Puts a group in, in place of one of its name. It takes no memory.
+    /// Puts a group in, in place of one of its name. It takes no memory. Which group leads to which is
+    /// worked out anew, but where the group lists what the other did.
     pub(crate) fn put(&mut self, name: Text, group: Group)
         requires { 0 < self.old.spare }
         ensures groups { self.new.groups ≡ finite.insert self.old.groups name group.members }
         ensures rooms { self.new.rooms ≡ finite.insert self.old.rooms name group.spare }
         ensures spare { self.old.spare ≤ self.new.spare + 1 }
     {
+        let alike = lists_alike(&self.items, &name, &group);
         put(&mut self.items, name, group);
+        work_out_unless(alike, &self.items, &mut self.cells);
     }
 
     /// Takes a group out, if it is there. It takes no memory.
@@ -217,7 +224,32 @@ impl GroupMap {
         ensures spare { self.old.spare ≤ self.new.spare }
     {
         take(&mut self.items, name);
+        work_out(&self.items, &mut self.cells);
     }
+}
+
+// Groups with what of them leads to which.
+fn with_items(alloc: Global, items: Hashed) -> Result<GroupMap, NoMemory>
+    ensures { IfOk result (λ m. m.groups ≡ groups_seen items.entries) }
+{
+    match worked_out(alloc, &items) {
+        Ok(cells) => Ok(GroupMap {
+            most: items.len(),
+            items,
+            cells,
+        }),
+        Err(fault) => {
+            drop(items);
+            Err(fault)
+        }
+    }
+}
+
+fn rows_items(alloc: Global, hasher: RandomState, rows: &[GroupRow]) -> Result<Hashed, NoMemory>
+    ensures { IfOk result (λ items. groups_seen items.entries ≡ with_rows finite.empty rows.now) }
+{
+    let mut items = IndexMap::with_capacity_and_hasher(alloc, rows.len(), hasher)?;
+    add_rows(alloc, hasher, rows, &mut items).and(Ok(items))
 }
 
 fn copy_items(alloc: Global, items: &Hashed) -> Result<Hashed, NoMemory>
@@ -270,11 +302,70 @@ fn add(items: &mut Hashed, name: Text, group: Group) -> Result<(), NoMemory>
     Ok(())
 }
 
+fn reserve_in(items: &mut Hashed, name: &Text, count: usize) -> Result<(), NoMemory>
+    ensures groups { groups_seen items.new.entries ≡ groups_seen items.old.entries }
+    ensures ok { OnOk result (IsTrue (is_some (finite.get (groups_seen items.old.entries) name.now)) → count ≤ room_of (rooms_seen items.new.entries) name.now) }
+    ensures room { room_of (rooms_seen items.old.entries) name.now ≤ room_of (rooms_seen items.new.entries) name.now }
+    ensures others { OthersKeepRoom name.now (rooms_seen items.old.entries) (rooms_seen items.new.entries) }
+    ensures spare { spare items.new ≡ spare items.old }
+    ensures lists { KeepsLists items.old.entries items.new.entries }
+{
+    let Some(group) = items.get_mut(name) else {
+        return Ok(());
+    };
+    group.reserve(count)
+}
+
+fn join(items: &mut Hashed, name: &Text, kind: MemberKind, member: Text)
+    requires { 0 < room_of (rooms_seen items.old.entries) name.now }
+    ensures groups { groups_seen items.new.entries ≡ changed name.now (joined kind member) (groups_seen items.old.entries) }
+    ensures room { room_of (rooms_seen items.old.entries) name.now ≤ room_of (rooms_seen items.new.entries) name.now + 1 }
+    ensures others { OthersKeepRoom name.now (rooms_seen items.old.entries) (rooms_seen items.new.entries) }
+    ensures spare { spare items.new ≡ spare items.old }
+    ensures len { length items.new.entries ≡ length items.old.entries }
+    ensures lists { UnlessGroup kind (KeepsLists items.old.entries items.new.entries) }
+{
+    let Some(group) = items.get_mut(name) else {
+        return;
+    };
+    group.join(kind, member);
+}
+
+fn leave(items: &mut Hashed, name: &Text, kind: MemberKind, member: &Text)
+    ensures groups { groups_seen items.new.entries ≡ changed name.now (left kind member.now) (groups_seen items.old.entries) }
+    ensures room { room_of (rooms_seen items.old.entries) name.now ≤ room_of (rooms_seen items.new.entries) name.now }
+    ensures others { OthersKeepRoom name.now (rooms_seen items.old.entries) (rooms_seen items.new.entries) }
+    ensures spare { spare items.new ≡ spare items.old }
+    ensures len { length items.new.entries ≡ length items.old.entries }
+    ensures lists { UnlessGroup kind (KeepsLists items.old.entries items.new.entries) }
+{
+    let Some(group) = items.get_mut(name) else {
+        return;
+    };
+    group.leave(kind, member);
+}
+
+fn leave_all(items: &mut Hashed, kind: MemberKind, member: &Text)
+    ensures groups { groups_seen items.new.entries ≡ left_all kind member.now (groups_seen items.old.entries) }
+    ensures rooms { (name : List ℕ) → room_of (rooms_seen items.old.entries) name ≤ room_of (rooms_seen items.new.entries) name }
+    ensures spare { spare items.old ≤ spare items.new }
+    ensures len { length items.new.entries ≡ length items.old.entries }
+    ensures lists { UnlessGroup kind (KeepsLists items.old.entries items.new.entries) }
+{
+    // Every group stays: `retain` reaches each where it stands.
+    items.retain(|_, group| {
+        group.leave(kind, member);
+        true
+    });
+}
+
 fn put(items: &mut Hashed, name: Text, group: Group)
     requires { 0 < spare items.old }
     ensures groups { groups_seen items.new.entries ≡ finite.insert (groups_seen items.old.entries) name group.members }
     ensures rooms { rooms_seen items.new.entries ≡ finite.insert (rooms_seen items.old.entries) name group.spare }
     ensures spare { spare items.old ≤ spare items.new + 1 }
+    ensures len { length items.new.entries ≤ length items.old.entries + 1 }
+    ensures entries { items.new.entries ≡ insert_entry bytes_eq items.old.entries name group }
 {
     drop(items.insert(name, group));
 }
@@ -283,6 +374,7 @@ fn take(items: &mut Hashed, name: &Text)
     ensures groups { groups_seen items.new.entries ≡ finite.remove (groups_seen items.old.entries) name.now }
     ensures rooms { rooms_seen items.new.entries ≡ finite.remove (rooms_seen items.old.entries) name.now }
     ensures spare { spare items.old ≤ spare items.new }
+    ensures len { length items.new.entries ≤ length items.old.entries }
 {
     drop(items.swap_remove(name));
 }

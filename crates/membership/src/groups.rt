@@ -27,6 +27,9 @@ use std::marker::Model;
 /// names, with room for a number of further ones. Contracts see finite sets and a finite map, the room
 /// in each group, and the room for more users, clients and groups.
 ///
+/// Which group leads to which is kept worked out, a byte for each two groups, since whoever belongs to a
+/// group belongs to each that lists it: a change of what some group lists works it out anew.
+///
 /// What changes it takes no memory where room was made before: `reserve` for users, clients and groups,
 /// and `reserve_in` for the members of a group.
 #[derive(Drop)]
@@ -167,15 +170,16 @@ impl Groups {
         is_operator(name) || self.users.contains(name) || self.clients.contains(name)
     }
 
-    /// Whether a caller belongs to a group. It takes no memory.
+    /// Whether a caller belongs to a group: is a user or client of it or of one to which it leads. It takes
+    /// no memory.
     #[tactic(auto, unfolding(crate::specs::Belonging::belongs))]
     fn belongs(&self, caller: &Text, group: &Text) -> bool
         ensures { result ≡ belongs self.now.membership caller.now group.now }
     {
-        self.groups.is_member(caller, group)
+        self.groups.belongs(caller, group)
     }
 
-    /// Whether a caller belongs to one of these groups. It takes no memory.
+    /// Whether a caller belongs to one of these groups, also through groups within them. It takes no memory.
     pub fn belongs_to_any(&self, caller: &Text, groups: &[Text]) -> bool
         ensures { result ≡ list_any (belongs self.now.membership caller.now) groups.now }
     {

@@ -5,6 +5,7 @@ mod group;
 mod group_map;
 mod groups;
 mod laws;
+mod leading;
 mod lists;
 mod member_kind;
 mod name_set;
@@ -14,7 +15,7 @@ mod text_trees;
 
 pub use group::Group;
 pub use groups::{Groups, is_operator};
-pub use laws::changes_follow_the_lists;
+pub use laws::{belonging_is_decided, changes_follow_the_lists};
 pub use lists::{GroupLists, GroupRow, GroupRows};
 pub use member_kind::MemberKind;
 pub use starting_groups::is_starting_group;

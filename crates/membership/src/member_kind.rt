@@ -5,6 +5,6 @@
 pub enum MemberKind {
     User,
     Client,
-    /// A group within the group. It is kept, and gives nobody a permission.
+    /// A group within the group: whoever belongs to it belongs to the group.
     Group,
 }

@@ -1,5 +1,5 @@
 //! Sets of names, with room for more.
-ghost use Rattle.std.specs.Prelude.{◌≡◌, ◌+◌, ◌<◌, ◌≤◌, IfOk, OnOk};
+ghost use Rattle.std.specs.Prelude.{◌≡◌, ◌+◌, ◌<◌, ◌≤◌, IfOk, IsTrue, OnOk, true};
 ghost use Rattle.std.specs.FinSet as set;
 ghost use Rattle.indexmap.specs.IndexSet.{spare};
 ghost use Rattle.doc_tree.specs.Valid.{InOrder};
@@ -119,11 +119,25 @@ impl NameSet {
         Ok(TextSet::of_copies(alloc, self.items.as_slice())?.into_texts())
     }
 
-    /// Whether a name is in the set. It is looked for by its hash.
+    /// Whether it has no names.
+    pub(crate) fn is_empty(&self) -> bool
+        ensures { result ≡ true → self.now.names ≡ set.empty }
+    {
+        self.items.is_empty()
+    }
+
+    /// Whether a name is in the set. It is looked for by its hash, where there are any.
     pub(crate) fn contains(&self, name: &Text) -> bool
         ensures { result ≡ set.contains self.now.names name.now }
     {
         self.items.contains(name)
+    }
+
+    /// Whether another set has the same names.
+    pub(crate) fn is_same(&self, other: &NameSet) -> bool
+        ensures { IsTrue result → self.now.names ≡ other.now.names }
+    {
+        self.items == other.items
     }
 
     /// Makes room for at least `count` further names.

@@ -4,6 +4,8 @@
 #[cfg(test)]
 mod access_lists_tests;
 #[cfg(test)]
+mod belonging_tests;
+#[cfg(test)]
 mod listing_tests;
 #[cfg(test)]
 mod object_forms_tests;

@@ -4,7 +4,8 @@ use crate::access_lists_tests::{ACL, acl_of, asked, first_word, perm_of};
 use access_lists::{Acl, AclAt, permission_is_decided, permitted};
 use doc_tree::{Name, Names, NoMemory, Text};
 use membership::{
-    Group, GroupLists, GroupRow, GroupRows, Groups, MemberKind, changes_follow_the_lists,
+    Group, GroupLists, GroupRow, GroupRows, Groups, MemberKind, belonging_is_decided,
+    changes_follow_the_lists,
 };
 use std::alloc::Global;
 use std::hash::RandomState;
@@ -52,7 +53,7 @@ fn group_row(alloc: Global, name: Name, members: &str) -> Result<GroupRow, NoMem
     Ok(row)
 }
 
-fn add_row(alloc: Global, rows: &mut GroupRows, row: &str) -> Result<(), NoMemory> {
+pub(crate) fn add_row(alloc: Global, rows: &mut GroupRows, row: &str) -> Result<(), NoMemory> {
     let (word, members) = first_word(row);
     match Name::of(Text::from_str(alloc, word)?) {
         Ok(name) => rows.push(group_row(alloc, name, members)?),
@@ -166,7 +167,7 @@ fn leave(alloc: Global, groups: &mut Groups, who: &str) -> Result<(), NoMemory> 
     Ok(())
 }
 
-fn change(
+pub(crate) fn change(
     alloc: Global,
     hasher: RandomState,
     groups: &mut Groups,
@@ -181,7 +182,7 @@ fn change(
     }
 }
 
-fn answered(yes: bool) -> &'static str {
+pub(crate) fn answered(yes: bool) -> &'static str {
     if yes { " -> yes" } else { " -> no" }
 }
 
@@ -217,7 +218,8 @@ may read nobody -> no
 may read web1 -> yes
 may read web10 -> no
 may read admins -> no
-may read dora -> no
+may read dora -> yes
+may grant dora -> yes
 may update dora -> yes
 join ops client web10
 may read web10 -> yes
@@ -232,9 +234,14 @@ leave ops user ann
 may read anna -> yes
 leave ops user anna
 may read anna -> no
-join ops group team
+leave admins group team
 may read dora -> no
+may grant dora -> no
+join ops group team
+may read dora -> yes
+may grant dora -> no
 leave ops group team
+may read dora -> no
 leave none user dora
 may update dora -> yes
 leave admins user cat
@@ -331,6 +338,7 @@ fn all_told(alloc: Global, hasher: RandomState) -> Result<String, NoMemory> {
 
 #[test]
 fn who_may_do_what(rt: HostRuntime) -> Result<(), Fail> {
+    belonging_is_decided();
     changes_follow_the_lists();
     permission_is_decided();
     let told = all_told(rt.alloc(), RandomState::new(&rt)?)?;
