@@ -10,6 +10,8 @@ mod disk_tests;
 #[cfg(test)]
 mod doc_tree_tests;
 #[cfg(test)]
+mod keeper_tests;
+#[cfg(test)]
 mod ordered_keys_tests;
 #[cfg(test)]
 mod outside_core_tests;
