@@ -1,7 +1,7 @@
 """Rows on who may do what, in three organisations of their own."""
 from table.forms import *
 
-G, D, T = "/organizations/gamma", "/organizations/delta", "/organizations/tau"
+G, D, T = "/organizations/gamma", "/organizations/delta", "/organizations/upsilon"
 
 # the list with which each container starts
 STARTING = {
@@ -291,7 +291,7 @@ def one_may(request, word, name, due):
 def groups_within_groups():
     """Whoever belongs to a group belongs to each that lists it: in a cycle, along a chain of 200, and by nobody's own group."""
     n1, read = T + "/nodes/n1", T + "/nodes/n1/_acl/read"
-    yield ("POST", "/organizations", '{"name":"tau"}', uri(T))
+    yield ("POST", "/organizations", '{"name":"upsilon"}', uri(T))
     for name in ("ann", "bob"):
         yield ("POST", T + "/users", '{"username":"%s"}' % name, uri(T + "/users/" + name))
     yield ("POST", T + "/nodes", '{"name":"n1"}', uri(n1))
@@ -299,44 +299,44 @@ def groups_within_groups():
     for name in ["g1", "g2", "g3", *chain]:
         yield ("POST", T + "/groups", '{"groupname":"%s"}' % name, uri("%s/groups/%s" % (T, name)))
     # two groups that list one another
-    yield ("PUT", T + "/groups/g1", '{"actors":{"groups":["g2"]}}', (200, group("tau", "g1", [], [], ["g2"])))
-    yield ("PUT", T + "/groups/g2", '{"actors":{"users":["ann"],"groups":["g1"]}}', (200, group("tau", "g2", ["ann"], [], ["g1"])))
+    yield ("PUT", T + "/groups/g1", '{"actors":{"groups":["g2"]}}', (200, group("upsilon", "g1", [], [], ["g2"])))
+    yield ("PUT", T + "/groups/g2", '{"actors":{"users":["ann"],"groups":["g1"]}}', (200, group("upsilon", "g2", ["ann"], [], ["g1"])))
     yield ("GET", n1, "", (200, node("n1")), by("ann"))
     yield ("PUT", read, permission("read", [], ["g1"]), (200, "{}"))
     yield ("GET", n1, "", (200, node("n1")), by("ann"))
     yield ("GET", n1, "", missing("read"), by("bob"))
     # one that is removed takes its members' way in
-    yield ("DELETE", T + "/groups/g2", "", (200, group("tau", "g2", ["ann"], [], ["g1"])))
+    yield ("DELETE", T + "/groups/g2", "", (200, group("upsilon", "g2", ["ann"], [], ["g1"])))
     yield ("GET", n1, "", missing("read"), by("ann"))
-    yield ("GET", T + "/groups/g1", "", (200, group("tau", "g1")))
+    yield ("GET", T + "/groups/g1", "", (200, group("upsilon", "g1")))
     # a member of the listing group gets nothing of the listed one
     yield ("POST", T + "/groups", '{"groupname":"g2"}', uri(T + "/groups/g2"))
-    yield ("PUT", T + "/groups/g2", '{"actors":{"users":["ann"]}}', (200, group("tau", "g2", ["ann"])))
-    yield ("PUT", T + "/groups/g1", '{"actors":{"users":["bob"],"groups":["g2"]}}', (200, group("tau", "g1", ["bob"], [], ["g2"])))
+    yield ("PUT", T + "/groups/g2", '{"actors":{"users":["ann"]}}', (200, group("upsilon", "g2", ["ann"])))
+    yield ("PUT", T + "/groups/g1", '{"actors":{"users":["bob"],"groups":["g2"]}}', (200, group("upsilon", "g1", ["bob"], [], ["g2"])))
     yield ("GET", n1, "", (200, node("n1")), by("bob"))
     yield ("GET", n1, "", (200, node("n1")), by("ann"))
     yield ("PUT", read, permission("read", [], ["g2"]), (200, "{}"))
     yield ("GET", n1, "", missing("read"), by("bob"))
     yield ("GET", n1, "", (200, node("n1")), by("ann"))
     # a group that lists itself, with nobody in it
-    yield ("PUT", T + "/groups/g3", '{"actors":{"groups":["g3"]}}', (200, group("tau", "g3", [], [], ["g3"])))
+    yield ("PUT", T + "/groups/g3", '{"actors":{"groups":["g3"]}}', (200, group("upsilon", "g3", [], [], ["g3"])))
     yield ("PUT", read, permission("read", [], ["g3"]), (200, "{}"))
     yield ("GET", n1, "", missing("read"), by("ann"))
     # a chain
     for name, following in zip(chain, chain[1:]):
-        yield ("PUT", "%s/groups/%s" % (T, name), '{"actors":{"groups":["%s"]}}' % following, (200, group("tau", name, [], [], [following])))
+        yield ("PUT", "%s/groups/%s" % (T, name), '{"actors":{"groups":["%s"]}}' % following, (200, group("upsilon", name, [], [], [following])))
     yield ("PUT", read, permission("read", [], ["c0"]), (200, "{}"))
     found = T + "/search/node?q=name:n1"
     yield ("GET", n1, "", missing("read"), by("ann"))
     yield ("GET", found, "", (200, '{"rows":[],"start":0,"total":0}'), by("ann"))
-    yield ("PUT", T + "/groups/c199", '{"actors":{"users":["ann"]}}', (200, group("tau", "c199", ["ann"])))
+    yield ("PUT", T + "/groups/c199", '{"actors":{"users":["ann"]}}', (200, group("upsilon", "c199", ["ann"])))
     yield ("GET", n1, "", (200, node("n1")), by("ann"))
     yield ("GET", found, "", (200, '{"rows":[%s],"start":0,"total":1}' % node("n1")), by("ann"))
     # one in its middle goes
-    yield ("DELETE", T + "/groups/c100", "", (200, group("tau", "c100", [], [], ["c101"])))
+    yield ("DELETE", T + "/groups/c100", "", (200, group("upsilon", "c100", [], [], ["c101"])))
     yield ("GET", n1, "", missing("read"), by("ann"))
     # a team within `admins`
-    yield ("PUT", T + "/groups/admins", '{"actors":{"groups":["c101"]}}', (200, group("tau", "admins", [], [], ["c101"])))
+    yield ("PUT", T + "/groups/admins", '{"actors":{"groups":["c101"]}}', (200, group("upsilon", "admins", [], [], ["c101"])))
     yield ("PUT", read, permission("read", [], ["c0", "g1"]), missing("grant"), by("bob"))
     yield ("PUT", read, permission("read", [], ["c0", "g1"]), (200, "{}"), by("ann"))
     yield ("GET", n1, "", (200, node("n1")), by("bob"))
