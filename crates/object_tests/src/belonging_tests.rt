@@ -211,35 +211,104 @@ fn remove(alloc: Global, groups: &mut Groups, number: usize) -> Result<(), NoMem
     Ok(())
 }
 
+// Whether ann belongs to the group of this number, as a word.
+fn tell(alloc: Global, groups: &Groups, number: usize, told: &mut String) -> Result<(), NoMemory> {
+    let has = has_ann(alloc, groups, number)?;
+    told.push_str(answered(has))?;
+    Ok(())
+}
+
+// The first of a chain, one in its middle, and the last; and then that one in the middle goes.
+fn tell_chain(alloc: Global, groups: &mut Groups, told: &mut String) -> Result<(), NoMemory> {
+    tell(alloc, groups, 0, told)?;
+    tell(alloc, groups, 100, told)?;
+    tell(alloc, groups, 200, told)?;
+    remove(alloc, groups, 100)?;
+    tell(alloc, groups, 0, told)?;
+    tell(alloc, groups, 99, told)?;
+    tell(alloc, groups, 101, told)
+}
+
+fn add_chain_told(alloc: Global, hasher: RandomState, told: &mut String) -> Result<(), NoMemory> {
+    let mut groups = chain(alloc, hasher, 200)?;
+    let done = tell_chain(alloc, &mut groups, told);
+    drop(groups);
+    done
+}
+
+fn chain_told(alloc: Global, hasher: RandomState) -> Result<String, NoMemory> {
+    let mut told = String::new(alloc);
+    add_chain_told(alloc, hasher, &mut told).and(Ok(told))
+}
+
 #[test]
 fn a_chain_of_two_hundred(rt: HostRuntime) -> Result<(), Fail> {
-    let alloc = rt.alloc();
-    let mut groups = chain(alloc, RandomState::new(&rt)?, 200)?;
-    assert!(rt; has_ann(alloc, &groups, 0)?);
-    assert!(rt; has_ann(alloc, &groups, 100)?);
-    assert!(rt; has_ann(alloc, &groups, 200)?);
-    // one in the middle goes
-    remove(alloc, &mut groups, 100)?;
-    assert!(rt; !has_ann(alloc, &groups, 0)?);
-    assert!(rt; !has_ann(alloc, &groups, 99)?);
-    assert!(rt; has_ann(alloc, &groups, 101)?);
+    let told = chain_told(rt.alloc(), RandomState::new(&rt)?)?;
+    assert_eq!(rt; told.as_str(), " -> yes -> yes -> yes -> no -> no -> yes");
     Ok(())
+}
+
+// Of a cycle: before ann joins the last group, and behind that of the first and of one in its middle.
+fn tell_joined(
+    alloc: Global,
+    groups: &mut Groups,
+    last: usize,
+    told: &mut String,
+) -> Result<(), NoMemory> {
+    tell(alloc, groups, 0, told)?;
+    join_ann(alloc, groups, last)?;
+    tell(alloc, groups, 0, told)?;
+    tell(alloc, groups, last / 2, told)
+}
+
+// Behind the last group's removal, and of a copy from before.
+fn tell_left(
+    alloc: Global,
+    groups: &mut Groups,
+    last: usize,
+    told: &mut String,
+) -> Result<(), NoMemory> {
+    let copy = groups.copy(alloc)?;
+    let done = tell_gone(alloc, groups, &copy, last, told);
+    drop(copy);
+    done
+}
+
+fn tell_gone(
+    alloc: Global,
+    groups: &mut Groups,
+    copy: &Groups,
+    last: usize,
+    told: &mut String,
+) -> Result<(), NoMemory> {
+    remove(alloc, groups, last)?;
+    tell(alloc, groups, 0, told)?;
+    tell(alloc, copy, 0, told)
+}
+
+fn add_cycle_told(
+    alloc: Global,
+    hasher: RandomState,
+    last: u16,
+    told: &mut String,
+) -> Result<(), NoMemory> {
+    let mut groups = cycle(alloc, hasher, last)?;
+    let joined = tell_joined(alloc, &mut groups, usize::from(last), told);
+    let done = joined.and(tell_left(alloc, &mut groups, usize::from(last), told));
+    drop(groups);
+    done
+}
+
+fn cycle_told(alloc: Global, hasher: RandomState, last: u16) -> Result<String, NoMemory> {
+    let mut told = String::new(alloc);
+    add_cycle_told(alloc, hasher, last, &mut told).and(Ok(told))
 }
 
 #[test]
 fn cycles(rt: HostRuntime) -> Result<(), Fail> {
-    let alloc = rt.alloc();
     for last in [0u16, 1, 49] {
-        let mut groups = cycle(alloc, RandomState::new(&rt)?, last)?;
-        assert!(rt; !has_ann(alloc, &groups, 0)?);
-        join_ann(alloc, &mut groups, usize::from(last))?;
-        assert!(rt; has_ann(alloc, &groups, 0)?);
-        assert!(rt; has_ann(alloc, &groups, usize::from(last / 2))?);
-        let copy = groups.copy(alloc)?;
-        assert!(rt; has_ann(alloc, &copy, 0)?);
-        remove(alloc, &mut groups, usize::from(last))?;
-        assert!(rt; !has_ann(alloc, &groups, 0)?);
-        assert!(rt; has_ann(alloc, &copy, 0)?);
+        let told = cycle_told(rt.alloc(), RandomState::new(&rt)?, last)?;
+        assert_eq!(rt; told.as_str(), " -> no -> yes -> yes -> no -> yes");
     }
     Ok(())
 }
