@@ -226,9 +226,9 @@ or_nothing false b = refl
 
 -- no place has been gone along
 pub Passed-none : (count : ℕ) (old : List Bool) (through : ℕ) → Passed count old through 0 old
-Passed-none count old through row column r c =
-    sym (or_nothing (at count old row column) (at count old row through && at count old through column))
-    ∙ ap (λ b. at count old row column || (b && (at count old row through && at count old through column))) (sym (le-ltb row 0 (omega arith)))
+Passed-none count old through place column r c =
+    sym (or_nothing (at count old place column) (at count old place through && at count old through column))
+    ∙ ap (λ b. at count old place column || (b && (at count old place through && at count old through column))) (sym (le-ltb place 0 (omega arith)))
 
 -- all have
 pub Passed-all : (count : ℕ) (old : List Bool) (through : ℕ) (now : List Bool) → Passed count old through count now
