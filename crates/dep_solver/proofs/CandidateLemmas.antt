@@ -1,14 +1,16 @@
 -- The releases that can be chosen, and the greatest of them.
-use Rattle.std.proofs.Common.{◌≡◌, ℕ, ◌+◌, ◌<◌, ◌≤◌, List, length, map, slice_get, Some, Contains, arith, ap, sym, subst, ◌∙◌, inl, inr, Bool, false}
-use Rattle.std.proofs.lemmas.Option.{same_Some}
+use Rattle.std.proofs.Common.{◌≡◌, MatchBool, Bor, ℕ, suc, ◌+◌, ◌-◌, ◌<◌, ◌≤◌, List, [], ◌∷◌, length, map, get_or, slice_get, Some, Contains, arith, ap, refl, sym, subst, ◌∙◌, inl, inr, Bool, true, false}
+use Rattle.std.proofs.lemmas.Option.{same_Some, slice_get_read}
+use Rattle.doc_tree.specs.declared.name.Name.{Name}
 use Rattle.version_rules.specs.declared.needs.Need.{Need}
 use Rattle.version_rules.specs.declared.versions.Version.{Version}
 use Rattle.dep_solver.specs.declared.roots.Roots.{Roots}
 use Rattle.dep_solver.specs.declared.rules.EnvRules.{EnvRules}
+use Rattle.dep_solver.specs.declared.search.Place.{Place}
 use Rattle.dep_solver.specs.declared.universe.Release.{Release}
 use Rattle.dep_solver.specs.declared.universe.Universe.{Universe}
 use Rattle.dep_solver.specs.Names.{CookbookName}
-use Rattle.dep_solver.specs.Search.{CanMeet, Flags, IsChoosable, MeetsAll, flags_of, is_set}
+use Rattle.dep_solver.specs.Search.{CanMeet, Fits, Flags, GoesOn, IsChoosable, IsGreatest, MeetsAll, flags_of, is_set, seen}
 use Rattle.dep_solver.specs.Solutions.{IsAllowed}
 use Rattle.dep_solver.specs.Universes.{releases_in}
 use Rattle.dep_solver.proofs.ListLemmas.{contains_map, map_contains}
@@ -65,3 +67,32 @@ module _ {A : Type 0} (P : A → Type 0) (xs : List A) (given_up : ℕ) where
       ]
     ];
   }
+
+-- what is said of both cases of a test, where it is known which it is
+pub yes_says : (P Q : Type 0) (b : Bool) → b ≡ true → MatchBool b P Q → P
+yes_says P Q b e m = subst (λ b. MatchBool b P Q) e m
+
+pub no_says : (P Q : Type 0) (b : Bool) → b ≡ false → MatchBool b P Q → Q
+no_says P Q b e m = subst (λ b. MatchBool b P Q) e m
+
+pub seen_long : (names : List (Bor Name)) → length names ≡ length (seen names)
+seen_long [] = refl
+seen_long (n ∷ names) = ap suc (seen_long names)
+
+-- of those that were not tried, the last one
+module _ (universe : Universe) (rules : EnvRules) (roots : Roots) (dead : Flags) (places : List Place) (name : CookbookName) where
+  pub greatest_here : (releases own : List Release) (given_up reached tried : ℕ) (place : Place) → HasTried (GoesOn universe rules roots dead places name) releases given_up tried → tried < length releases → releases ≡ own
+      → place.release.now ≡ get_or releases (length releases - 1 - tried) place.release.now → Fits universe rules roots dead places name place.release.now → place.name.now ≡ name → place.tried ≡ tried + 1 → place.reached ≡ reached
+      → IsGreatest universe rules roots dead places name own given_up reached place
+  greatest_here releases own given_up reached tried place before within are is fits named counted at =
+      subst (λ (rs : List Release). IsGreatest universe rules roots dead places name rs given_up reached place) are
+      (record {
+        of_name = named;
+        before = at;
+        fits = fits;
+        index = length releases - 1 - tried;
+        stands = slice_get_read releases (length releases) (length releases - 1 - tried) place.release.now refl (omega (arith, within)) is;
+        counted = omega (arith, within, counted);
+        left = omega (arith, within, before.low);
+        greater = λ other r after below e. before.none other r below (omega (arith, within, after)) e;
+      })

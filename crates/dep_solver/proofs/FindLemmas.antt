@@ -31,7 +31,7 @@ all_at P [] k c h e = absurd (none-some c e)
 all_at P (x ∷ cookbooks) zero c h e = subst (λ (z : Cookbook). P z.name) (same_Some x c e) h.0
 all_at P (x ∷ cookbooks) (suc k) c h e = all_at P cookbooks k c h.1 e
 
-find_at : (cookbooks : List Cookbook) (k : ℕ) (c : Cookbook) → IsStrictlySortedBy text_cmp (map (λ (c : Cookbook). c.name) cookbooks) → slice_get cookbooks k ≡ Some c
+pub find_at : (cookbooks : List Cookbook) (k : ℕ) (c : Cookbook) → IsStrictlySortedBy text_cmp (map (λ (c : Cookbook). c.name) cookbooks) → slice_get cookbooks k ≡ Some c
     → find (λ (x : Cookbook). same_name x.name c.name) cookbooks ≡ Some c
 find_at [] k c up e = absurd (none-some c e)
 find_at (x ∷ cookbooks) zero c up e =

@@ -23,7 +23,9 @@ pub mod FirstLemmas
 pub mod EntryLemmas
 pub mod ChosenLemmas
 pub mod BestLemmas
+pub mod ValueLemmas
 pub mod ConflictLemmas
 pub mod FindLemmas
 pub mod DeadLemmas
+pub mod ClashLemmas
 pub mod LawLemmas

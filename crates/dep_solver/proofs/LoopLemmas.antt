@@ -8,9 +8,8 @@ use Rattle.dep_solver.specs.declared.rules.EnvRules.{EnvRules}
 use Rattle.dep_solver.specs.declared.search.Place.{Place}
 use Rattle.dep_solver.specs.declared.universe.Release.{Release}
 use Rattle.dep_solver.specs.declared.universe.Universe.{Universe}
-use Rattle.dep_solver.specs.Conflicts.{IsStuck}
 use Rattle.dep_solver.specs.Names.{CookbookName}
-use Rattle.dep_solver.specs.Search.{AreNeverChosen, Begins, Chooses, FindsBest, Flags, Fits, GivesUp, IsGreatest, NoneFits, pin_of, seen}
+use Rattle.dep_solver.specs.Search.{AreNeverChosen, Begins, Chooses, FindsBest, Flags, Fits, GivesUp, GoesOn, IsGreatest, NoneGoesOn, pin_of, seen}
 use Rattle.dep_solver.specs.declared.search.Search.{Search}
 use Rattle.doc_tree.specs.declared.name.Name.{Name}
 use Rattle.dep_solver.specs.Solutions.{Choice, IsSolution}
@@ -20,7 +19,7 @@ use Rattle.dep_solver.proofs.EndLemmas.{found_best}
 use Rattle.dep_solver.proofs.ListLemmas.{contains_map, in_tail, map_contains, nowhere}
 use Rattle.dep_solver.proofs.MeasureLemmas.{few_places, few_releases, left_to_try, release_count, try_falls, try_stays}
 use Rattle.dep_solver.proofs.ReleaseLemmas.{needs_at}
-use Rattle.dep_solver.proofs.SearchLemmas.{Goes, HasSearched, NoneLeft, Sound, none_left, search_chooses, search_ends, search_gives_up, search_starts, sound_front, sound_none, sound_push}
+use Rattle.dep_solver.proofs.SearchLemmas.{Goes, HasSearched, NoneLeft, Opens, Sound, none_left, search_chooses, search_ends, search_gives_up, search_starts, sound_front, sound_none, sound_push}
 use Rattle.dep_solver.proofs.WalkLemmas.{names_distinct, with_needs-grows, with_places-append}
 
 -- where the release of a place stands, how many were tried, and how many names were reached before it
@@ -130,6 +129,11 @@ module _ (universe : Universe) (rules : EnvRules) (roots : Roots) (dead : Flags)
     needs_can_be_met = goes.can_be_met;
   }
 
+  goes_on : (places : List Place) (name : CookbookName) (release : Release) → Kept universe roots.names [] places → Goes universe rules roots dead (map pin_of places) name release
+      → Opens universe rules roots (map pin_of places) name release → GoesOn universe rules roots dead places name release
+  goes_on places name release kept goes opens =
+      record { fits = goes_fits places name release kept goes; choice = opens.choice; solution = opens.solution; holds = opens.holds; has = opens.has }
+
   sound_chosen : (names : List CookbookName) (places : List Place) (given_up : ℕ) (name : CookbookName) (releases : List Release) (reached : ℕ) (place : Place) → Searches universe rules roots names places given_up
       → slice_get names (length places) ≡ Some name → releases ≡ releases_in universe name → IsGreatest universe rules roots dead places name releases given_up reached place
       → Sound universe rules roots (map pin_of places ++ pin_of place ∷ [])
@@ -152,9 +156,9 @@ module _ (universe : Universe) (rules : EnvRules) (roots : Roots) (dead : Flags)
             ∙ sym (with_places-append universe roots.names (map pin_of places) (pin_of place ∷ [])) ∙ ap (with_places universe roots.names) (sym seen);
         searched = subst (λ ps. HasSearched universe rules roots ps 0) (sym seen)
             (search_chooses universe rules roots dead never (map pin_of places) given_up (pin_of place) place.release.now greatest.index s.searched (next_is universe rules roots names places given_up name s at ∙ ap Some (sym greatest.of_name)) stands refl
-            (λ other r above below e goes.
+            (λ other r above below e goes opens.
             greatest.greater other r above (subst (λ rs. other + given_up < length rs) (sym in_own) below) (ap (λ rs. slice_get rs other) in_own ∙ e)
-            (subst (λ n. Fits universe rules roots dead places n r) greatest.of_name (goes_fits places place.name.now r s.kept goes))));
+            (subst (λ n. GoesOn universe rules roots dead places n r) greatest.of_name (goes_on places place.name.now r s.kept goes opens))));
         sound = subst (λ ps. Sound universe rules roots ps) (sym seen) (sound_chosen names places given_up name releases reached place s at are greatest);
         kept = Kept-push universe roots.names [] places place s.kept (record {
           index = greatest.index;
@@ -165,10 +169,11 @@ module _ (universe : Universe) (rules : EnvRules) (roots : Roots) (dead : Flags)
       }
 
   none_goes : (names : List CookbookName) (places : List Place) (given_up : ℕ) (name : CookbookName) (releases : List Release) → Searches universe rules roots names places given_up → releases ≡ releases_in universe name
-      → NoneFits universe rules roots dead places name releases given_up
-      → (other : ℕ) (r : Release) → other + given_up < length (releases_in universe name) → slice_get (releases_in universe name) other ≡ Some r → Goes universe rules roots dead (map pin_of places) name r → ⊥
-  none_goes names places given_up name releases s are none other r below e goes =
-      none other r (subst (λ rs. other + given_up < length rs) (sym are) below) (ap (λ rs. slice_get rs other) are ∙ e) (goes_fits places name r s.kept goes)
+      → NoneGoesOn universe rules roots dead places name releases given_up
+      → (other : ℕ) (r : Release) → other + given_up < length (releases_in universe name) → slice_get (releases_in universe name) other ≡ Some r → Goes universe rules roots dead (map pin_of places) name r
+      → Opens universe rules roots (map pin_of places) name r → ⊥
+  none_goes names places given_up name releases s are none other r below e goes opens =
+      none other r (subst (λ rs. other + given_up < length rs) (sym are) below) (ap (λ rs. slice_get rs other) are ∙ e) (goes_on places name r s.kept goes opens)
 
   pub gives_up : (names : List CookbookName) (places : List Place) (given_up : ℕ) (front : List Place) (last : Place) (fewer : List CookbookName) → Searches universe rules roots names places given_up
       → NoneLeft universe rules roots (map pin_of places) given_up → places ≡ front ++ last ∷ [] → fewer ≡ take last.reached names → Searches universe rules roots fewer front last.tried
@@ -197,10 +202,9 @@ module _ (universe : Universe) (rules : EnvRules) (roots : Roots) (dead : Flags)
 
   -- where the search is stuck, no solution is left
   nobody_left : (names : List CookbookName) (places : List Place) (given_up : ℕ) (name : CookbookName) → Searches universe rules roots names places given_up → slice_get names (length places) ≡ Some name
-      → IsStuck universe rules roots dead places name given_up → NoneLeft universe rules roots (map pin_of places) given_up
-  nobody_left names places given_up name s at (inl none) =
+      → NoneGoesOn universe rules roots dead places name (releases_in universe name) given_up → NoneLeft universe rules roots (map pin_of places) given_up
+  nobody_left names places given_up name s at none =
       none_left universe rules roots dead never (map pin_of places) given_up name (next_is universe rules roots names places given_up name s at) (none_goes names places given_up name (releases_in universe name) s refl none)
-  nobody_left names places given_up name s at (inr out) = λ choice solution left. out choice solution left.begins.versions
 
   pub chosen_nearer : (names : List CookbookName) (places : List Place) (given_up : ℕ) (name : CookbookName) (releases : List Release) (reached : ℕ) (place : Place) (more : List Place) → Searches universe rules roots names places given_up
       → slice_get names (length places) ≡ Some name → releases ≡ releases_in universe name → IsGreatest universe rules roots dead places name releases given_up reached place
@@ -237,12 +241,12 @@ module _ (universe : Universe) (rules : EnvRules) (roots : Roots) (dead : Flags)
       (chosen_nearer (seen old.names.items) old.places.items old.given_up name (releases_in universe name) (length (seen old.names.items)) place new.places.items s at refl greatest step.places)
 
   pub gave_up : (old new : Search) (name : CookbookName) → Searches universe rules roots (seen old.names.items) old.places.items old.given_up → slice_get (seen old.names.items) (length old.places.items) ≡ Some name
-      → IsStuck universe rules roots dead old.places.items name old.given_up → GivesUp old new → Searches universe rules roots (seen new.names.items) new.places.items new.given_up
+      → NoneGoesOn universe rules roots dead old.places.items name (releases_in universe name) old.given_up → GivesUp old new → Searches universe rules roots (seen new.names.items) new.places.items new.given_up
   gave_up old new name s at stuck step =
       let names : seen new.names.items ≡ take step.last.reached (seen old.names.items) = ap seen step.names ∙ sym (take-map (λ (n : Bor Name). n.now) step.last.reached old.names.items) in
       subst (λ g. Searches universe rules roots (seen new.names.items) new.places.items g) (sym step.given_up)
       (gives_up (seen old.names.items) old.places.items old.given_up new.places.items step.last (seen new.names.items) s (nobody_left (seen old.names.items) old.places.items old.given_up name s at stuck) step.places names)
 
   pub failed : (old : Search) (name : CookbookName) → Searches universe rules roots (seen old.names.items) old.places.items old.given_up → slice_get (seen old.names.items) (length old.places.items) ≡ Some name
-      → IsStuck universe rules roots dead old.places.items name old.given_up → old.places.items ≡ [] → (choice : Choice) → IsSolution universe rules roots choice → ⊥
+      → NoneGoesOn universe rules roots dead old.places.items name (releases_in universe name) old.given_up → old.places.items ≡ [] → (choice : Choice) → IsSolution universe rules roots choice → ⊥
   failed old name s at stuck empty = fails (seen old.names.items) old.places.items old.given_up s (nobody_left (seen old.names.items) old.places.items old.given_up name s at stuck) empty

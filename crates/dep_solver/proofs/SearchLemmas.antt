@@ -31,6 +31,13 @@ pub met_by : (choice : Choice) (need : Need) (version : Version) → IsMet choic
 met_by choice need version met e = subst (λ v. Meets v need.constraint) (same_Some met.0 version (sym met.1 ∙ e)) met.2
 
 module _ (universe : Universe) (rules : EnvRules) (roots : Roots) where
+  -- a solution has the places, and the name at the release
+  pub record Opens (places : List Pin) (name : CookbookName) (release : Release) : Type 0 where
+    pub choice : Choice
+    pub solution : IsSolution universe rules roots choice
+    pub holds : Holds choice places
+    pub has : finite.get choice name ≡ Some release.version
+
   -- a release of a name goes with the places
   pub record Goes (dead : Flags) (places : List Pin) (name : CookbookName) (release : Release) : Type 0 where
     pub goes_with_pins : (pin : Pin) → Contains roots.pins pin → pin.name ≡ name → release.version ≡ pin.version
@@ -198,7 +205,7 @@ module _ (universe : Universe) (rules : EnvRules) (roots : Roots) where
 
   pub search_chooses : (dead : Flags) → AreNeverChosen universe rules roots dead → (places : List Pin) (given_up : ℕ) (p : Pin) (release : Release) (index : ℕ) → HasSearched places given_up → next universe roots.names places ≡ Some p.name
       → slice_get (releases_in universe p.name) index ≡ Some release → release.version ≡ p.version
-      → ((other : ℕ) (r : Release) → index < other → other + given_up < length (releases_in universe p.name) → slice_get (releases_in universe p.name) other ≡ Some r → Goes dead places p.name r → ⊥)
+      → ((other : ℕ) (r : Release) → index < other → other + given_up < length (releases_in universe p.name) → slice_get (releases_in universe p.name) other ≡ Some r → Goes dead places p.name r → Opens places p.name r → ⊥)
       → HasSearched (places ++ p ∷ []) 0
   unfolding HasSearched
   search_chooses dead never places given_up p release index searched at stands is greater choice solution = elim (searched choice solution) [
@@ -225,7 +232,8 @@ module _ (universe : Universe) (rules : EnvRules) (roots : Roots) where
                   untried = λ name v _ e. untried_at_first choice name v solution e;
                 })
             | inr higher ↦ absurd (greater found.index found.at.release higher found.left found.at.stands
-                (solution_fits dead never choice places p.name found.at.release found.index solution left.begins.versions (has.1 ∙ ap Some (sym found.at.is)) found.at.stands))
+                (solution_fits dead never choice places p.name found.at.release found.index solution left.begins.versions (has.1 ∙ ap Some (sym found.at.is)) found.at.stands)
+                (record { choice = choice; solution = solution; holds = left.begins.versions; has = has.1 ∙ ap Some (sym found.at.is) }))
           ]
         ]
   ]
@@ -236,13 +244,14 @@ module _ (universe : Universe) (rules : EnvRules) (roots : Roots) where
 
   -- where no release goes, no solution is left
   pub none_left : (dead : Flags) → AreNeverChosen universe rules roots dead → (places : List Pin) (given_up : ℕ) (name : CookbookName) → next universe roots.names places ≡ Some name
-      → ((other : ℕ) (r : Release) → other + given_up < length (releases_in universe name) → slice_get (releases_in universe name) other ≡ Some r → Goes dead places name r → ⊥)
+      → ((other : ℕ) (r : Release) → other + given_up < length (releases_in universe name) → slice_get (releases_in universe name) other ≡ Some r → Goes dead places name r → Opens places name r → ⊥)
       → NoneLeft places given_up
   none_left dead never places given_up name at none choice solution left =
       let has = held choice places name solution left.begins.versions at in
       let found = left.untried name has.0 at has.1 in
       none found.index found.at.release found.left found.at.stands
       (solution_fits dead never choice places name found.at.release found.index solution left.begins.versions (has.1 ∙ ap Some (sym found.at.is)) found.at.stands)
+      (record { choice = choice; solution = solution; holds = left.begins.versions; has = has.1 ∙ ap Some (sym found.at.is) })
 
   pub search_gives_up : (front : List Pin) (p : Pin) (release : Release) (index tried given_up : ℕ) → HasSearched (front ++ p ∷ []) given_up
       → Follow universe roots.names [] (front ++ p ∷ []) → slice_get (releases_in universe p.name) index ≡ Some release → release.version ≡ p.version → index + tried ≡ length (releases_in universe p.name)

@@ -1,107 +1,133 @@
--- What the search learns: names with some of their versions, of which no solution has all.
-use Rattle.std.specs.Prelude.{◌≡◌, ◌⊎◌, ℕ, List, map, Contains, Some, IsTrue, Bool}
+-- What the search learns: cookbooks with some of their values, of which no solution has all.
+use Rattle.std.specs.Prelude.{◌≡◌, ◌⊎◌, ◌<◌, ◌-◌, ℕ, min, length, List, [], ◌∷◌, map, Contains, Some, slice_get}
+use Rattle.std.specs.Int.{bit_at}
 use Rattle.std.specs.FinMap as finite
 use Rattle.version_rules.specs.declared.needs.Need.{Need}
 use Rattle.version_rules.specs.declared.versions.Version.{Version}
 use Rattle.version_rules.specs.Meets.{Meets}
-use Rattle.dep_solver.specs.declared.conflicts.Blame.{Blame}
-use Rattle.dep_solver.specs.declared.conflicts.Blame.TheVariants.{Needs, Forbids, Fails}
 use Rattle.dep_solver.specs.declared.conflicts.Conflict.{Conflict}
 use Rattle.dep_solver.specs.declared.conflicts.Term.{Term}
 use Rattle.dep_solver.specs.declared.roots.Roots.{Roots}
 use Rattle.dep_solver.specs.declared.rules.EnvRules.{EnvRules}
 use Rattle.dep_solver.specs.declared.search.Place.{Place}
+use Rattle.dep_solver.specs.declared.store.Store.{Store}
+use Rattle.dep_solver.specs.declared.universe.Cookbook.{Cookbook}
 use Rattle.dep_solver.specs.declared.universe.Release.{Release}
 use Rattle.dep_solver.specs.declared.universe.Universe.{Universe}
 use Rattle.dep_solver.specs.Names.{CookbookName}
-use Rattle.dep_solver.specs.Search.{Flags, NoneFits, pin_of}
-use Rattle.dep_solver.specs.Solutions.{Choice, IsSolution}
+use Rattle.dep_solver.specs.Search.{Fits, Flags, pin_of}
+use Rattle.dep_solver.specs.Solutions.{Choice, IsMet, IsSolution}
 use Rattle.dep_solver.specs.Universes.{releases_in}
+use Rattle.dep_solver.specs.Values.{value_at}
 use Rattle.dep_solver.specs.Walks.{Holds}
 
--- the choice has the name at one of the versions
-abbrev pub HasOneOf : Choice → CookbookName → List Version → Type 0
-HasOneOf choice name versions = (version : Version) × (finite.get choice name ≡ Some version) × Contains versions version
+-- each cookbook has a value, below 64
+abbrev pub Values : Type 0
+Values = ℕ → ℕ
 
--- the choice has each of the terms
-abbrev pub HasAll : Choice → List Term → Type 0
-HasAll choice terms = (term : Term) → Contains terms term → HasOneOf choice term.name.now term.versions.items
+-- the values have the term
+abbrev pub HasTerm : Values → Term → Type 0
+HasTerm taken term = bit_at term.values (taken term.cookbook) ≡ 1
+
+-- the values have each of the terms
+abbrev pub HasAll : Values → List Term → Type 0
+HasAll taken terms = (term : Term) → Contains terms term → HasTerm taken term
 
 -- no solution has all of the terms
 abbrev pub IsConflict : Universe → EnvRules → Roots → List Term → Type 0
-IsConflict universe rules roots terms = (choice : Choice) → IsSolution universe rules roots choice → ¬ (HasAll choice terms)
+IsConflict universe rules roots terms = (choice : Choice) → IsSolution universe rules roots choice → ¬ (HasAll (value_at universe choice) terms)
 
 -- each of these is a conflict
 abbrev pub AreConflicts : Universe → EnvRules → Roots → List Conflict → Type 0
 AreConflicts universe rules roots conflicts = (conflict : Conflict) → Contains conflicts conflict → IsConflict universe rules roots conflict.terms.items
 
--- a choice with these places has the name at one of the versions
-abbrev pub PlacesHave : List Place → CookbookName → List Version → Type 0
-PlacesHave places name versions = (choice : Choice) → Holds choice (map pin_of places) → HasOneOf choice name versions
+-- values below 64 that have all of the new terms have all of the one or all of the other
+abbrev pub Resolves : List Term → List Term → List Term → Type 0
+Resolves one other new = (taken : Values) → ((index : ℕ) → taken index < 64) → HasAll taken new → HasAll taken one ⊎ HasAll taken other
+
+-- a value below 64 that is among these is in each term on the cookbook
+abbrev pub AllowsEach : List Term → ℕ → ℕ → Type 0
+AllowsEach terms cookbook values = (value : ℕ) → value < 64 → bit_at values value ≡ 1 → (term : Term) → Contains terms term → term.cookbook ≡ cookbook → bit_at term.values value ≡ 1
+
+-- values that have the new terms have the old ones and the term
+abbrev pub Adds : List Term → Term → List Term → Type 0
+Adds old term new = (taken : Values) → HasAll taken new → HasAll taken old × HasTerm taken term
+
+-- values that have the new terms have the old ones, and each of the others on other cookbooks
+abbrev pub AddsOthers : List Term → ℕ → List Term → List Term → Type 0
+AddsOthers others cookbook old new =
+    (taken : Values) → HasAll taken new → HasAll taken old × ((term : Term) → Contains others term → ¬ (term.cookbook ≡ cookbook) → HasTerm taken term)
+
+-- a place has the term
+abbrev pub PlaceHas : Universe → Place → Term → Type 0
+PlaceHas universe place term = (choice : Choice) → finite.get choice place.name.now ≡ Some place.release.now.version → HasTerm (value_at universe choice) term
+
+-- a choice with these places has the term
+abbrev pub PlacesHave : Universe → List Place → Term → Type 0
+PlacesHave universe places term = (choice : Choice) → Holds choice (map pin_of places) → HasTerm (value_at universe choice) term
 
 -- a choice with these places has all of the terms
-abbrev pub PlacesHaveAll : List Place → List Term → Type 0
-PlacesHaveAll places terms = (term : Term) → Contains terms term → PlacesHave places term.name.now term.versions.items
+abbrev pub PlacesHaveAll : Universe → List Place → List Term → Type 0
+PlacesHaveAll universe places terms = (term : Term) → Contains terms term → PlacesHave universe places term
 
--- a choice with these places has all of one of the conflicts
-abbrev pub PlacesBreak : List Place → List Conflict → Type 0
-PlacesBreak places conflicts = (conflict : Conflict) × Contains conflicts conflict × PlacesHaveAll places conflict.terms.items
+-- the cookbook at an index has the name
+abbrev pub IsAt : Universe → ℕ → CookbookName → Type 0
+IsAt universe index name = (cookbook : Cookbook) × (slice_get universe.cookbooks index ≡ Some cookbook) × (cookbook.name ≡ name)
 
--- a release is to blame
-abbrev pub IsBlamed : Blame → Release → Type 0
-IsBlamed (Needs name) release = (need : Need) × Contains release.needs need × (need.name ≡ name.now)
-IsBlamed (Forbids name version) release = ¬ ((need : Need) → Contains release.needs need → need.name ≡ name.now → Meets version.now need.constraint)
-IsBlamed (Fails constraint) release = ¬ (Meets release.version constraint.now)
+-- no solution has one of the values of a cookbook
+abbrev pub IsRuledOut : Universe → EnvRules → Roots → ℕ → ℕ → Type 0
+IsRuledOut universe rules roots cookbook values = (choice : Choice) → IsSolution universe rules roots choice → ¬ (bit_at values (value_at universe choice cookbook) ≡ 1)
 
--- a version is that of a release of the name that is to blame
-abbrev pub IsBlamedVersion : Universe → CookbookName → Blame → Version → Type 0
-IsBlamedVersion universe name blame version = (release : Release) × Contains (releases_in universe name) release × (release.version ≡ version) × IsBlamed blame release
+-- each release of a cookbook that goes alone is among the values
+abbrev pub AreFitting : Universe → EnvRules → Roots → Flags → Cookbook → ℕ → Type 0
+AreFitting universe rules roots dead cookbook values =
+    (index : ℕ) (release : Release) → slice_get cookbook.releases index ≡ Some release → Fits universe rules roots dead [] cookbook.name release → bit_at values (min (length cookbook.releases - index) 63) ≡ 1
 
--- each version is that of a release of the name that is to blame
-abbrev pub AreBlamed : Universe → CookbookName → Blame → List Version → Type 0
-AreBlamed universe name blame versions = (version : Version) → Contains versions version → IsBlamedVersion universe name blame version
+-- each version of the choice is released
+abbrev pub AreReleased : Universe → Choice → Type 0
+AreReleased universe choice =
+    (name : CookbookName) (version : Version) → finite.get choice name ≡ Some version → Contains (map (λ (release : Release). release.version) (releases_in universe name)) version
 
--- a choice that has all of the new terms has all of the old
-abbrev pub Narrows : List Term → List Term → Type 0
-Narrows old new = (choice : Choice) → HasAll choice new → HasAll choice old
+-- a choice that meets all needs of the release has one of the values of a cookbook
+abbrev pub IsMask : Universe → ℕ → Release → ℕ → Type 0
+IsMask universe cookbook release values =
+    (choice : Choice) → AreReleased universe choice → ((need : Need) → Contains release.needs need → IsMet choice need) → bit_at values (value_at universe choice cookbook) ≡ 1
 
--- a choice that has all of the terms has the name at one of the versions
-abbrev pub Says : List Term → CookbookName → List Version → Type 0
-Says terms name versions = (choice : Choice) → HasAll choice terms → HasOneOf choice name versions
+-- each release that meets the need is among the values
+abbrev pub MeetsAt : List Release → Need → ℕ → Type 0
+MeetsAt releases need values = (index : ℕ) (release : Release) → slice_get releases index ≡ Some release → Meets release.version need.constraint → bit_at values (min (length releases - index) 63) ≡ 1
 
--- no solution that has all of the terms has the name at the version
-abbrev pub RulesOut : Universe → EnvRules → Roots → List Term → CookbookName → Version → Type 0
-RulesOut universe rules roots terms name version = (choice : Choice) → IsSolution universe rules roots choice → HasAll choice terms → ¬ (finite.get choice name ≡ Some version)
+-- each release that leaves one of the values is found
+abbrev pub Leaves : List ℕ → ℕ → ℕ → Type 0
+Leaves masks values found =
+    (index mask value : ℕ) → slice_get masks index ≡ Some mask → value < 64 → bit_at mask value ≡ 1 → bit_at values value ≡ 1 → bit_at found (min (length masks - index) 63) ≡ 1
 
--- each of the terms on the name has the version
-abbrev pub Covers : List Term → CookbookName → Version → Type 0
-Covers terms name version = (term : Term) → Contains terms term → term.name.now ≡ name → Contains term.versions.items version
+-- the found releases, of which each value is one, leave none of the values
+pub record Clashes (masks : List ℕ) (values found : ℕ) : Type 0 where
+  pub chosen : ¬ (bit_at found 0 ≡ 1)
+  pub clash : (index mask value : ℕ) → slice_get masks index ≡ Some mask → bit_at found (min (length masks - index) 63) ≡ 1 → value < 64 → bit_at mask value ≡ 1 → ¬ (bit_at values value ≡ 1)
 
--- the new terms say what the old ones said, and what each of others on other names says
-abbrev pub AddsOthers : List Term → CookbookName → List Term → List Term → Type 0
-AddsOthers others name old new =
-    Narrows old new × ((term : Term) → Contains others term → ¬ (term.name.now ≡ name) → Says new term.name.now term.versions.items)
+-- terms on one cookbook, whose values leave none of the values of the other, and on the other
+abbrev pub AreClash : List ℕ → ℕ → ℕ → ℕ → List Term → Type 0
+AreClash masks index other values terms =
+    (found : ℕ) × Clashes masks values found × (terms ≡ record { cookbook = index; values = found } ∷ record { cookbook = other; values = values } ∷ [])
 
--- the new terms say what the old ones said, and rule the version out where that was found
-abbrev pub Blames : Universe → EnvRules → Roots → CookbookName → Version → List Term → List Term → Bool → Type 0
-Blames universe rules roots name version old new found = Narrows old new × (IsTrue found → RulesOut universe rules roots new name version)
+-- all that is kept is a conflict
+abbrev pub KeepsConflicts : Universe → EnvRules → Roots → Store → Type 0
+KeepsConflicts universe rules roots store = AreConflicts universe rules roots store.known.items × AreConflicts universe rules roots store.learned.items
 
--- a solution that has all of the terms has the name
-abbrev pub Reaches : Universe → EnvRules → Roots → CookbookName → List Term → Type 0
-Reaches universe rules roots name terms = (choice : Choice) → IsSolution universe rules roots choice → HasAll choice terms → (version : Version) × (finite.get choice name ≡ Some version)
+-- the terms are those of one of the conflicts
+abbrev pub IsAmong : List Conflict → List Term → Type 0
+IsAmong conflicts terms = (conflict : Conflict) × Contains conflicts conflict × (conflict.terms.items ≡ terms)
 
--- each of these versions is among those
-abbrev pub IsNarrower : List Version → List Version → Type 0
-IsNarrower ones versions = (version : Version) → Contains ones version → Contains versions version
+-- where all that is kept is a conflict, the terms are one
+abbrev pub Follows : Store → List Term → Type 0
+Follows store terms = (universe : Universe) (rules : EnvRules) (roots : Roots) → KeepsConflicts universe rules roots store → IsConflict universe rules roots terms
 
--- the new terms say what the old ones said, and where that was found, all of a conflict but what the name has at the version
-abbrev pub BlamesAny : List Conflict → CookbookName → Version → List Term → List Term → Bool → Type 0
-BlamesAny conflicts name version old new found =
-    Narrows old new
-    × (IsTrue found → (conflict : Conflict) × Contains conflicts conflict × Covers conflict.terms.items name version
-    × ((term : Term) → Contains conflict.terms.items term → ¬ (term.name.now ≡ name) → Says new term.name.now term.versions.items))
+-- where all that was kept is a conflict, all that is kept now is one
+abbrev pub Grows : Store → Store → Type 0
+Grows old new = (universe : Universe) (rules : EnvRules) (roots : Roots) → KeepsConflicts universe rules roots old → KeepsConflicts universe rules roots new
 
--- no release of the name fits but those that were given up, or no solution has the places
-abbrev pub IsStuck : Universe → EnvRules → Roots → Flags → List Place → CookbookName → ℕ → Type 0
-IsStuck universe rules roots dead places name given_up =
-    NoneFits universe rules roots dead places name (releases_in universe name) given_up ⊎ ((choice : Choice) → IsSolution universe rules roots choice → ¬ (Holds choice (map pin_of places)))
+-- where all that was kept is a conflict, and the terms are one, all that is kept now is one
+abbrev pub GrowsBy : Store → List Term → Store → Type 0
+GrowsBy old terms new = (universe : Universe) (rules : EnvRules) (roots : Roots) → KeepsConflicts universe rules roots old → IsConflict universe rules roots terms → KeepsConflicts universe rules roots new

@@ -9,4 +9,5 @@ pub mod Laws
 pub mod Search
 pub mod Keys
 pub mod Straight
+pub mod Values
 pub mod Conflicts

@@ -19,7 +19,7 @@ use Rattle.dep_solver.specs.Best.{IsBest}
 use Rattle.dep_solver.specs.Names.{CookbookName, same_name}
 use Rattle.dep_solver.specs.Solutions.{Choice, IsSolution, choice_of}
 use Rattle.dep_solver.specs.Universes.{releases_in}
-use Rattle.dep_solver.specs.Walks.{Follow, with_needs}
+use Rattle.dep_solver.specs.Walks.{Follow, Holds, with_needs}
 use Rattle.std.specs.Borrow.{Bor}
 use Rattle.doc_tree.specs.Text.{text_cmp}
 use Rattle.doc_tree.specs.declared.name.Name.{Name}
@@ -98,7 +98,15 @@ pub record Fits (universe : Universe) (rules : EnvRules) (roots : Roots) (dead :
   pub places_meet : (need : Need) → Contains release.needs need → (place : Place) → Contains places place → place.name.now ≡ need.name → Meets place.release.now.version need.constraint
   pub needs_can_be_met : (need : Need) → Contains release.needs need → CanMeet universe rules roots dead need
 
--- a place of a name at the greatest of its releases that fits, behind those of which so many were given up
+-- a release of a name goes with the places, and a solution has all of them
+pub record GoesOn (universe : Universe) (rules : EnvRules) (roots : Roots) (dead : Flags) (places : List Place) (name : CookbookName) (release : Release) : Type 0 where
+  pub fits : Fits universe rules roots dead places name release
+  pub choice : Choice
+  pub solution : IsSolution universe rules roots choice
+  pub holds : Holds choice (map pin_of places)
+  pub has : finite.get choice name ≡ Some release.version
+
+-- a place of a name at the greatest of its releases that goes on, behind those of which so many were given up
 pub record IsGreatest (universe : Universe) (rules : EnvRules) (roots : Roots) (dead : Flags) (places : List Place) (name : CookbookName) (releases : List Release) (given_up reached : ℕ) (place : Place) : Type 0 where
   pub of_name : place.name.now ≡ name
   pub before : place.reached ≡ reached
@@ -107,12 +115,12 @@ pub record IsGreatest (universe : Universe) (rules : EnvRules) (roots : Roots) (
   pub stands : slice_get releases index ≡ Some place.release.now
   pub counted : index + place.tried ≡ length releases
   pub left : index + given_up < length releases
-  pub greater : (other : ℕ) (release : Release) → index < other → other + given_up < length releases → slice_get releases other ≡ Some release → ¬ (Fits universe rules roots dead places name release)
+  pub greater : (other : ℕ) (release : Release) → index < other → other + given_up < length releases → slice_get releases other ≡ Some release → ¬ (GoesOn universe rules roots dead places name release)
 
--- no release fits but those that were given up
-abbrev pub NoneFits : Universe → EnvRules → Roots → Flags → List Place → CookbookName → List Release → ℕ → Type 0
-NoneFits universe rules roots dead places name releases given_up =
-    (index : ℕ) (release : Release) → index + given_up < length releases → slice_get releases index ≡ Some release → ¬ (Fits universe rules roots dead places name release)
+-- no release goes on but those that were given up
+abbrev pub NoneGoesOn : Universe → EnvRules → Roots → Flags → List Place → CookbookName → List Release → ℕ → Type 0
+NoneGoesOn universe rules roots dead places name releases given_up =
+    (index : ℕ) (release : Release) → index + given_up < length releases → slice_get releases index ≡ Some release → ¬ (GoesOn universe rules roots dead places name release)
 
 -- the order of names and versions: by the name, and then by the version
 abbrev pub pin_cmp : Pin → Pin → Ordering

@@ -1,6 +1,6 @@
 //! Which release of a name goes with the places that were chosen.
-ghost use Rattle.std.specs.Prelude.{◌≡◌, ◌↔◌, IsTrue, Contains, MatchOption};
-ghost use Rattle.dep_solver.specs.Search.{CanMeet, Fits, IsGreatest, NoneFits};
+ghost use Rattle.std.specs.Prelude.{◌≡◌, ◌↔◌, IsTrue, Contains};
+ghost use Rattle.dep_solver.specs.Search.{CanMeet, Fits};
 ghost use Rattle.version_rules.specs.Meets.{Meets};
 ghost use Rattle.version_rules.specs.declared.needs.Need.{Need};
 ghost use Rattle.dep_solver.specs.declared.roots.Pin.{Pin};
@@ -13,39 +13,6 @@ use crate::search::Place;
 use crate::universe::{Release, Universe};
 use doc_tree::Name;
 use version_rules::{Need, Version, meets};
-
-/// The place of a name at the greatest of its releases that fits, behind those of which so many were given up.
-#[allow(clippy::too_many_arguments)]
-pub(crate) fn greatest<'a>(
-    universe: &Universe,
-    rules: &EnvRules,
-    roots: &Roots,
-    dead: &Flags,
-    places: &[Place<'_>],
-    name: &'a Name,
-    releases: &'a [Release],
-    given_up: usize,
-    reached: usize,
-) -> Option<Place<'a>>
-    ensures { MatchOption result
-        (NoneFits universe.now rules.now roots.now dead.now places.now name.now releases.now given_up)
-        (IsGreatest universe.now rules.now roots.now dead.now places.now name.now releases.now given_up reached) }
-{
-    let mut tried = given_up;
-    while tried < releases.len() {
-        let release = &releases[releases.len() - 1 - tried];
-        tried += 1;
-        if fits(universe, rules, roots, dead, places, name, release) {
-            return Some(Place {
-                name,
-                release,
-                tried,
-                reached,
-            });
-        }
-    }
-    None
-}
 
 pub(crate) fn fits(
     universe: &Universe,

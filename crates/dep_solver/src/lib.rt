@@ -2,11 +2,13 @@
 #![tactic(auto)]
 
 mod candidates;
+mod clashes;
 mod conflicts;
 mod dead;
 mod finding;
 mod keys;
 mod laws;
+mod learning;
 mod no_solution;
 mod refusing;
 mod roots;
@@ -14,8 +16,11 @@ mod rules;
 mod same;
 mod search;
 mod solved;
+mod store;
 mod straight;
+mod trail;
 mod universe;
+mod values;
 
 pub use laws::{
     best_is_none_better, best_of_is_the_best, lists_of_a_refusal, one_is_better,

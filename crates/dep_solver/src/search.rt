@@ -2,14 +2,17 @@
 ghost use Rattle.std.specs.Prelude.{◌≡◌, IfOk};
 ghost use Rattle.dep_solver.specs.Search.{Finds};
 
-use crate::candidates::greatest;
-use crate::conflicts::{Conflict, break_conflict, conflict_at};
+use crate::candidates::fits;
+use crate::clashes::index_in;
+use crate::conflicts::{Term, have_all};
 use crate::dead::never_chosen;
 use crate::finding::{Flags, releases_in};
+use crate::learning::Learner;
 use crate::roots::Roots;
 use crate::rules::EnvRules;
 use crate::straight::straight_walk;
 use crate::universe::{Release, Universe};
+use crate::values::{only, value_of};
 use doc_tree::{Name, NoMemory};
 use std::alloc::Global;
 use version_rules::Need;
@@ -34,9 +37,9 @@ pub(crate) struct Search<'a> {
 }
 
 ghost use Rattle.std.specs.Prelude.{OnOk, Some, None, slice_get, length, option_map, MatchOption, MatchBool, []};
-ghost use Rattle.dep_solver.specs.Search.{AreNeverChosen, Begins, Chooses, GivesUp, IsGreatest, NoneFits, seen};
+ghost use Rattle.dep_solver.specs.Search.{AreNeverChosen, Begins, Chooses, Fits, GivesUp, GoesOn, IsGreatest, NoneGoesOn, seen};
 ghost use Rattle.dep_solver.specs.Universes.{releases_in};
-ghost use Rattle.dep_solver.specs.Conflicts.{AreConflicts, IsStuck};
+ghost use Rattle.dep_solver.specs.Conflicts.{KeepsConflicts};
 
 /// The places of the best solution's walk, or `None` exactly where there is no solution.
 ///
@@ -70,9 +73,9 @@ fn searched<'a>(
     ensures { IfOk result (Finds universe.now rules.now roots.now) }
 {
     let mut search = Search::begin(alloc, roots)?;
-    let mut conflicts = Vec::new(alloc);
+    let mut learner = Learner::begin(alloc, universe, rules, roots, dead)?;
     while let Some(name) = search.next_name() {
-        let next = search.next_place(alloc, universe, rules, roots, dead, &mut conflicts, name)?;
+        let next = search.next_place(alloc, universe, rules, roots, dead, &mut learner, name)?;
         if let Some(place) = next {
             search.choose(place)?;
         } else if !search.give_up() {
@@ -100,37 +103,7 @@ impl<'a> Search<'a> {
         self.names.get(self.places.len()).copied()
     }
 
-    /// The place of a name at its greatest release that fits and wasn't given up.
-    fn greatest_place(
-        &self,
-        universe: &'a Universe,
-        rules: &EnvRules,
-        roots: &Roots,
-        dead: &Flags,
-        name: &'a Name,
-    ) -> Option<Place<'a>>
-        ensures { MatchOption result
-            (NoneFits universe.now rules.now roots.now dead.now self.now.places.items name.now (releases_in universe.now name.now) self.now.given_up)
-            (IsGreatest universe.now rules.now roots.now dead.now self.now.places.items name.now (releases_in universe.now name.now) self.now.given_up (length (seen self.now.names.items))) }
-    {
-        let releases = releases_in(universe, name);
-        let places = self.places.as_slice();
-        let reached = self.names.len();
-        greatest(
-            universe,
-            rules,
-            roots,
-            dead,
-            places,
-            name,
-            releases,
-            self.given_up,
-            reached,
-        )
-    }
-
-    /// The place to take next, or `None` where no solution is left that has the places. What is learned then is put behind
-    /// the conflicts.
+    /// The place of a name at its greatest release that goes on and wasn't given up.
     #[allow(clippy::too_many_arguments)]
     fn next_place(
         &self,
@@ -139,29 +112,74 @@ impl<'a> Search<'a> {
         rules: &EnvRules,
         roots: &Roots,
         dead: &Flags,
-        conflicts: &mut Vec<Conflict<'a>>,
+        learner: &mut Learner,
         name: &'a Name,
     ) -> Result<Option<Place<'a>>, NoMemory>
-        requires never { AreNeverChosen universe.now rules.now roots.now dead.now }
-        requires learned { AreConflicts universe.now rules.now roots.now conflicts.old.items }
-        ensures learned { OnOk result (AreConflicts universe.now rules.now roots.now conflicts.new.items) }
+        requires { KeepsConflicts universe.now rules.now roots.now learner.old.store }
+        ensures keeps { OnOk result (KeepsConflicts universe.now rules.now roots.now learner.new.store) }
         ensures place { IfOk result (λ found. MatchOption found
-            (IsStuck universe.now rules.now roots.now dead.now self.now.places.items name.now self.now.given_up)
+            (NoneGoesOn universe.now rules.now roots.now dead.now self.now.places.items name.now (releases_in universe.now name.now) self.now.given_up)
             (IsGreatest universe.now rules.now roots.now dead.now self.now.places.items name.now (releases_in universe.now name.now) self.now.given_up (length (seen self.now.names.items)))) }
     {
-        let places = self.places.as_slice();
-        if break_conflict(places, conflicts.as_slice()) {
-            return Ok(None);
-        }
-        if let Some(place) = self.greatest_place(universe, rules, roots, dead, name) {
-            return Ok(Some(place));
-        }
-        let known = conflicts.as_slice();
-        let learned = conflict_at(alloc, universe, rules, roots, dead, known, places, name)?;
-        if let Some(conflict) = learned {
-            conflicts.push(conflict)?;
+        let releases = releases_in(universe, name);
+        let reached = self.names.len();
+        let mut tried = self.given_up;
+        while tried < releases.len() {
+            let release = &releases[releases.len() - 1 - tried];
+            tried += 1;
+            let place = Place {
+                name,
+                release,
+                tried,
+                reached,
+            };
+            if self.goes_on(alloc, universe, rules, roots, dead, learner, place)? {
+                return Ok(Some(place));
+            }
         }
         Ok(None)
+    }
+
+    /// Whether a place goes with the places, and no conflict is found that all of them have.
+    #[allow(clippy::too_many_arguments)]
+    fn goes_on(
+        &self,
+        alloc: Global,
+        universe: &'a Universe,
+        rules: &EnvRules,
+        roots: &Roots,
+        dead: &Flags,
+        learner: &mut Learner,
+        place: Place<'a>,
+    ) -> Result<bool, NoMemory>
+        requires { KeepsConflicts universe.now rules.now roots.now learner.old.store }
+        ensures keeps { OnOk result (KeepsConflicts universe.now rules.now roots.now learner.new.store) }
+        ensures goes { IfOk result (λ goes. MatchBool goes
+            (Fits universe.now rules.now roots.now dead.now self.now.places.items place.entry.name.now place.entry.release.now)
+            (¬ (GoesOn universe.now rules.now roots.now dead.now self.now.places.items place.entry.name.now place.entry.release.now))) }
+    {
+        let places = self.places.as_slice();
+        if !fits(
+            universe,
+            rules,
+            roots,
+            dead,
+            places,
+            place.name,
+            place.release,
+        ) {
+            return Ok(false);
+        }
+        if learner.has_witness(&term_of(universe, &place)) {
+            return Ok(true);
+        }
+        let mut all = Vec::from_slice(alloc, places)?;
+        all.push(place)?;
+        let assumed = terms_of(alloc, universe, all.as_slice())?;
+        match learner.refuted(alloc, assumed.as_slice())? {
+            Some(conflict) => Ok(!have_all(universe, all.as_slice(), conflict.terms.as_slice())),
+            None => Ok(true),
+        }
     }
 
     /// Takes a place, and puts what its release needs behind the names.
@@ -225,4 +243,26 @@ fn is_among(names: &[&Name], name: &Name) -> bool
     ensures { result ≡ list_any (λ other. same_name name.now other.now) names.now }
 {
     names.iter().any(|other| *name == **other)
+}
+
+// The places as terms.
+fn terms_of(
+    alloc: Global,
+    universe: &Universe,
+    places: &[Place<'_>],
+) -> Result<Vec<Term>, NoMemory> {
+    let mut terms = Vec::with_capacity(alloc, places.len())?;
+    for place in places {
+        terms.push(term_of(universe, place))?;
+    }
+    Ok(terms)
+}
+
+fn term_of(universe: &Universe, place: &Place<'_>) -> Term {
+    let cookbook = index_in(universe, place.name).unwrap_or(universe.cookbooks.len());
+    let releases = releases_in(universe, place.name);
+    Term {
+        cookbook,
+        values: only(value_of(releases, &place.release.version)),
+    }
 }

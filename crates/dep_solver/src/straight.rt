@@ -4,7 +4,7 @@
 //! of two names are compared only where their keys are one.
 ghost use Rattle.std.specs.Prelude.{◌≡◌, ◌↔◌, IfOk, IfSome, IsTrue, OnOk, MatchOption, Contains, map, length};
 ghost use Rattle.dep_solver.specs.Keys.{key_of};
-ghost use Rattle.dep_solver.specs.Search.{Begins, Chooses, FindsBest, Fits, IsGreatest, NoneFits, pin_of, seen};
+ghost use Rattle.dep_solver.specs.Search.{Begins, Chooses, FindsBest, Fits, IsGreatest, NoneGoesOn, pin_of, seen};
 ghost use Rattle.dep_solver.specs.Straight.{AreNeeded, AreReached, IsMarked};
 ghost use Rattle.dep_solver.specs.Universes.{releases_in};
 
@@ -96,7 +96,7 @@ impl<'a> Straight<'a> {
     ) -> Option<Place<'a>>
         requires { IsMarked self.now }
         ensures { MatchOption result
-            (NoneFits universe.now rules.now roots.now dead.now self.now.search.places.items name.now (releases_in universe.now name.now) self.now.search.given_up)
+            (NoneGoesOn universe.now rules.now roots.now dead.now self.now.search.places.items name.now (releases_in universe.now name.now) self.now.search.given_up)
             (IsGreatest universe.now rules.now roots.now dead.now self.now.search.places.items name.now (releases_in universe.now name.now) self.now.search.given_up (length (seen self.now.search.names.items))) }
     {
         let key = key_of(name);

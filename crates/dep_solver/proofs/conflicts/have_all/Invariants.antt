@@ -1,8 +1,7 @@
 -- The places have each term before the index.
-use Rattle.dep_solver.specs.declared.conflicts.Term.{Term}
 use Rattle.dep_solver.specs.Conflicts.{PlacesHave}
 use Rattle.dep_solver.proofs.EachLemmas.{EachBefore}
 use Rattle.dep_solver.proofs.conflicts.have_all.Given as goal
 
 abbrev pub invariant-loop-term : goal.invariant-loop-term
-invariant-loop-term l = EachBefore (λ (t : Term). PlacesHave l.places t.name.now t.versions.items) l.terms l.term-index
+invariant-loop-term l = EachBefore (PlacesHave l.universe l.places) l.terms l.term-index
