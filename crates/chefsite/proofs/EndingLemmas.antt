@@ -116,4 +116,6 @@ is_complete status.WriteFault left rest held now rb rn wb wn says cause bytes me
 is_complete status.NoMemory left rest held now rb rn wb wn says cause bytes messages known split no_read no_write = inr refl
 is_complete (status.NotAMessage place) left rest held now rb rn wb wn says cause bytes messages known split no_read no_write =
     absurd (((tells_rest (status.NotAMessage place) left rest held now says bytes messages [] known split).1 place refl).0 refl)
+is_complete status.BadReply left rest held now rb rn wb wn says cause bytes messages known split no_read no_write = absurd says
+is_complete (status.Refused number) left rest held now rb rn wb wn says cause bytes messages known split no_read no_write = absurd says
 is_complete status.BadFile left rest held now rb rn wb wn says cause bytes messages known split no_read no_write = absurd says

@@ -3,5 +3,6 @@ mod AloneLemmas
 mod EndingLemmas
 mod WordLemmas
 mod DemoLemmas
+mod KnifeLemmas
 mod ContractLemmas
 mod NoteLemmas

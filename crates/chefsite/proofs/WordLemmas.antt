@@ -1,7 +1,7 @@
 -- The size of a demo that words name is in its range.
 use Rattle.std.proofs.Common.{◌≡◌, ◌≤◌, ℕ, Bool, true, false, cond, List, [], ◌∷◌, Option, None, Some, refl, subst, rules}
 use Rattle.std.specs.Prelude.{bytes_eq, codes, option_map, option_and_then}
-use Rattle.command_words.specs.Words.{explain, demo, answer_with, explain_with, demo_with, command_of, only_value, number_in, is_size, size_in}
+use Rattle.command_words.specs.Words.{explain, demo, knife, answer_with, explain_with, demo_with, knife_with, told_by, given_in, Knife, command_of, only_value, number_in, is_size, size_in}
 
 in_range : (n : ℕ) → is_size n ≡ true → n ≤ 200
 in_range n test = search rules
@@ -28,14 +28,19 @@ not_explain : (file : Option (List ℕ)) (size : ℕ) → option_map explain fil
 not_explain None size read = cc read
 not_explain (Some file) size read = cc read
 
-by_word : (is_answer is_explain is_demo : Bool) (words : List (List ℕ)) (size : ℕ)
-    → cond is_answer (answer_with words) (cond is_explain (explain_with words) (cond is_demo (demo_with words) None)) ≡ Some (demo size) → size ≤ 200
-by_word true is_explain is_demo words size read = absurd (not_answer words size read)
-by_word false true is_demo words size read = absurd (not_explain (only_value (codes "--sources") words) size read)
-by_word false false true words size read = by_value (only_value (codes "--size") words) size read
-by_word false false false words size read = absurd (cc read)
+not_knife : (told : Option Knife) (size : ℕ) → option_map knife told ≡ Some (demo size) → ⊥
+not_knife None size read = cc read
+not_knife (Some told) size read = cc read
+
+by_word : (is_answer is_explain is_demo is_knife : Bool) (words : List (List ℕ)) (size : ℕ)
+    → cond is_answer (answer_with words) (cond is_explain (explain_with words) (cond is_demo (demo_with words) (cond is_knife (knife_with words) None))) ≡ Some (demo size) → size ≤ 200
+by_word true is_explain is_demo is_knife words size read = absurd (not_answer words size read)
+by_word false true is_demo is_knife words size read = absurd (not_explain (only_value (codes "--sources") words) size read)
+by_word false false true is_knife words size read = by_value (only_value (codes "--size") words) size read
+by_word false false false true words size read = absurd (not_knife (option_and_then told_by (given_in words)) size read)
+by_word false false false false words size read = absurd (cc read)
 
 pub size_is_small : (given : List (List ℕ)) (size : ℕ) → command_of given ≡ Some (demo size) → size ≤ 200
 size_is_small [] size read = absurd (cc read)
 size_is_small (word ∷ words) size read =
-    by_word (bytes_eq word (codes "answer")) (bytes_eq word (codes "explain")) (bytes_eq word (codes "demo")) words size read
+    by_word (bytes_eq word (codes "answer")) (bytes_eq word (codes "explain")) (bytes_eq word (codes "demo")) (bytes_eq word (codes "knife")) words size read

@@ -13,7 +13,7 @@ use Rattle.org_machine.specs.Permitting.{ArePermittedExactly}
 use Rattle.org_machine.specs.Serving.{Progress}
 use Rattle.http_wire.specs.Replies.{reply_text}
 use Rattle.chefsite.specs.declared.statuses.Status.{Status}
-use Rattle.chefsite.specs.declared.statuses.Status.TheVariants.{Done, Usage, ReadFault, WriteFault, NoMemory, NotAMessage, BadFile}
+use Rattle.chefsite.specs.declared.statuses.Status.TheVariants.{Done, Usage, ReadFault, WriteFault, NoMemory, NotAMessage, BadReply, Refused, BadFile}
 
 -- what a reply comes to: its status, and the bytes that it has as a message
 abbrev pub outcome_of : Reply → Outcome
@@ -47,6 +47,8 @@ SaysOfDemo ReadFault size held now = ⊥
 SaysOfDemo WriteFault size held now = (text : List ℕ) × IsToldOf size text × GainsPart held now text
 SaysOfDemo NoMemory size held now = now ≡ held
 SaysOfDemo (NotAMessage place) size held now = ⊥
+SaysOfDemo BadReply size held now = ⊥
+SaysOfDemo (Refused number) size held now = ⊥
 SaysOfDemo BadFile size held now = ⊥
 
 -- a fault comes only where the output's count rose, and want of memory only where it stayed
@@ -57,6 +59,8 @@ HasDemoCause ReadFault before now = ⊥
 HasDemoCause WriteFault before now = Rose before now
 HasDemoCause NoMemory before now = now ≡ before
 HasDemoCause (NotAMessage place) before now = ⊥
+HasDemoCause BadReply before now = ⊥
+HasDemoCause (Refused number) before now = ⊥
 HasDemoCause BadFile before now = ⊥
 
 -- some first requests of a demo of this size were served, and these are still to come

@@ -7,7 +7,7 @@ use Rattle.answer_stream.specs.declared.ends.End.{End}
 use Rattle.answer_stream.specs.declared.ends.End.TheVariants.{Closed}
 use Rattle.answer_stream.specs.declared.ends.End.TheVariants as end
 use Rattle.chefsite.specs.declared.statuses.Status.{Status}
-use Rattle.chefsite.specs.declared.statuses.Status.TheVariants.{Done, Usage, ReadFault, WriteFault, NoMemory, NotAMessage, BadFile}
+use Rattle.chefsite.specs.declared.statuses.Status.TheVariants.{Done, Usage, ReadFault, WriteFault, NoMemory, NotAMessage, BadReply, Refused, BadFile}
 use Rattle.chefsite.specs.Isolation.{IsAnswered, IsAnsweredToRest, IsAnsweredUpTo, IsCutShort}
 
 -- what a status says: `left` and `rest` are what the input had before and has after, `held` and `now` what the output had and has
@@ -18,6 +18,8 @@ Says ReadFault left rest held now = IsAnsweredUpTo left rest held now
 Says WriteFault left rest held now = IsCutShort left held now
 Says NoMemory left rest held now = (rest ≡ left) × (now ≡ held)
 Says (NotAMessage place) left rest held now = IsAnsweredToRest place left held now
+Says BadReply left rest held now = ⊥
+Says (Refused number) left rest held now = ⊥
 Says BadFile left rest held now = ⊥
 
 -- a fault comes only where its count rose, and want of memory only where neither count moved
@@ -28,6 +30,8 @@ HasStatusCause ReadFault read_before read_now written_before written_now = Rose 
 HasStatusCause WriteFault read_before read_now written_before written_now = Rose written_before written_now
 HasStatusCause NoMemory read_before read_now written_before written_now = (read_now ≡ read_before) × (written_now ≡ written_before)
 HasStatusCause (NotAMessage place) read_before read_now written_before written_now = Unit {0}
+HasStatusCause BadReply read_before read_now written_before written_now = ⊥
+HasStatusCause (Refused number) read_before read_now written_before written_now = ⊥
 HasStatusCause BadFile read_before read_now written_before written_now = ⊥
 
 -- a stream splits in one way, so a status tells of the rest: 0 comes only where it is empty, and 8 only

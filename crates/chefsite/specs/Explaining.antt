@@ -7,7 +7,7 @@ use Rattle.outside_core.specs.Disk.{Files, IsFile}
 use Rattle.attr_merge.specs.Sources.{layers_in}
 use Rattle.attr_merge.specs.Lines.{Explains}
 use Rattle.chefsite.specs.declared.statuses.Status.{Status}
-use Rattle.chefsite.specs.declared.statuses.Status.TheVariants.{Done, Usage, ReadFault, WriteFault, NoMemory, NotAMessage, BadFile}
+use Rattle.chefsite.specs.declared.statuses.Status.TheVariants.{Done, Usage, ReadFault, WriteFault, NoMemory, NotAMessage, BadReply, Refused, BadFile}
 
 -- the file isn't there, or its bytes aren't sources
 abbrev pub HasNoSources : Option (List ℕ) → Type 0
@@ -29,6 +29,8 @@ SaysOfFile ReadFault files file held now = now ≡ held
 SaysOfFile WriteFault files file held now = (lines : List ℕ) × IsExplainedBy files file lines × GainsPart held now lines
 SaysOfFile NoMemory files file held now = now ≡ held
 SaysOfFile (NotAMessage place) files file held now = ⊥
+SaysOfFile BadReply files file held now = ⊥
+SaysOfFile (Refused number) files file held now = ⊥
 SaysOfFile BadFile files file held now = IsBadFile files file × (now ≡ held)
 
 -- a fault comes only where its count rose: the disk's in reading, and the output's in writing. At any status but a read
@@ -40,4 +42,6 @@ HasFileCause ReadFault read_before read_now written_before written_now = Rose re
 HasFileCause WriteFault read_before read_now written_before written_now = (read_now ≡ read_before) × Rose written_before written_now
 HasFileCause NoMemory read_before read_now written_before written_now = (read_now ≡ read_before) × (written_now ≡ written_before)
 HasFileCause (NotAMessage place) read_before read_now written_before written_now = ⊥
+HasFileCause BadReply read_before read_now written_before written_now = ⊥
+HasFileCause (Refused number) read_before read_now written_before written_now = ⊥
 HasFileCause BadFile read_before read_now written_before written_now = (read_now ≡ read_before) × (written_now ≡ written_before)

@@ -1,8 +1,11 @@
 pub mod Statuses
 pub mod Notes
+pub mod Makers
+pub mod Courses
 pub mod Isolation
 pub mod Endings
 pub mod Explaining
 pub mod Demonstrating
+pub mod Knifing
 pub mod Theorems
 pub mod Exits

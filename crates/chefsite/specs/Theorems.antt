@@ -39,6 +39,13 @@
 --   lines                      demo_requests/specs/Lines.antt   the five lines that tell what replies come to
 --   Demonstrates, IsToldOf     specs/Demonstrating.antt         one reply to each request, and to each organisation those that it would get alone; these are the lines of such replies
 --
+-- What `knife` asks and prints is told by `Knifed`, which stands on these:
+--
+--   errand_in                  knife_errands/specs/Words.antt   the errand that words spell
+--   KnifeSays, talk            knife_core/specs/Ends.antt, Table.antt  the requests written are the talk's, each behind the replies before it; what is printed and the end are its end's
+--   Goes, Stops                talks/specs/Talk.antt            the exchanges that a line carried, whole or cut short
+--   end_status, end_named      specs/Knifing.antt               the status of an end, and what its note names
+--
 -- The limits of these clauses:
 --
 -- * What an input, an output or notes hold is told only where these tell it, as a list in memory does. Standard
@@ -51,32 +58,26 @@
 -- * The operator's listing of organisations tells who is there, and is of no organisation. That the header which
 --   names the caller is true is the promise of the front that sets it.
 -- * Time, memory used, and that a reader gets what was written.
-use Rattle.std.specs.Prelude.{◌≡◌, ◌≢◌, ◌⊎◌, ℕ, List, Option, Some}
+use Rattle.std.specs.Prelude.{◌≡◌, ◌≢◌, ◌⊎◌, ℕ, List, Bool, true, false, Option, None, Some}
 use Rattle.std.specs.Io.KnownBytes.{append_known}
 use Rattle.outside_core.specs.Failed.{Rose}
 use Rattle.outside_core.specs.Sink.{GainsPart}
 use Rattle.outside_core.specs.Disk.{Files}
 use Rattle.chefsite.specs.declared.statuses.Status.{Status}
-use Rattle.chefsite.specs.declared.statuses.Status.TheVariants.{Done, Usage, ReadFault, WriteFault, NoMemory, NotAMessage, BadFile}
-use Rattle.command_words.specs.Words.{IsCommand, answer, explain, demo, command_of, file_of}
+use Rattle.chefsite.specs.declared.statuses.Status.TheVariants.{Done, Usage, ReadFault, WriteFault, NoMemory, NotAMessage, BadReply, Refused, BadFile}
+use Rattle.chefsite.specs.declared.named.Named.{Named}
+use Rattle.chefsite.specs.declared.named.Named.TheVariants.{Nothing, File}
+use Rattle.chefsite.specs.declared.ended.Ended.{Ended}
+use Rattle.command_words.specs.Words.{Command, Knife, answer, explain, demo, knife, command_of}
+use Rattle.knife_errands.specs.Words.{errand_in}
+use Rattle.knife_errands.specs.declared.errands.Errand.{Errand}
+use Rattle.chefsite.specs.Courses.{Course, IsUntouched, PeerCourse, IsPeerUntouched}
 use Rattle.chefsite.specs.Isolation.{IsAnswered, IsAnsweredToRest, IsAnsweredUpTo, IsCutShort}
 use Rattle.chefsite.specs.Endings.{TellsRest, IsComplete}
 use Rattle.chefsite.specs.Explaining.{HasNoSources, IsBadFile, IsExplainedBy}
 use Rattle.chefsite.specs.Demonstrating.{IsToldOf}
+use Rattle.chefsite.specs.Knifing.{is_understood, whom_of, Knifed}
 use Rattle.chefsite.specs.Notes.{IsNoted}
-
--- the course of an input, an output, notes or a disk over a run: what it tells, which is the bytes that an input has left
--- or that an output and notes have gained, or the files of a disk; and its count of faults, before and after
-pub record Course (T : Type 0) : Type 0 where
-  pub old : Option T
-  pub new : Option T
-  pub faults_before : ℕ
-  pub faults_after : ℕ
-
--- what it tells and its count of faults are as they were
-pub record IsUntouched {T : Type 0} (course : Course T) : Type 0 where
-  pub told : course.new ≡ course.old
-  pub count : course.faults_after ≡ course.faults_before
 
 -- a run of `answer` ended with this status
 pub record Answered (status : Status) (input output : Course (List ℕ)) (disk : Course Files) : Type 0 where
@@ -149,25 +150,65 @@ pub record Demonstrated (status : Status) (size : ℕ) (input output : Course (L
   -- and no file is
   pub no_file : IsUntouched disk
 
--- the command that these words are ended with this status
-pub record Performed (status : Status) (words : List (List ℕ)) (input output : Course (List ℕ)) (disk : Course Files) : Type 0 where
-  -- 2: only where the words are no command
-  pub usage : status ≡ Usage → ¬ (IsCommand words)
-  -- and where they are none it is 2, but for want of memory to read them
-  pub no_command : ¬ (IsCommand words) → (status ≡ Usage) ⊎ (status ≡ NoMemory)
-  -- and then nothing was read or written
-  pub idle : ¬ (IsCommand words) → IsUntouched input × IsUntouched output × IsUntouched disk
+-- the file that a note of `explain` names: at 13 the one that the words name
+abbrev pub file_named : Status → List ℕ → Named
+file_named Done file = Nothing
+file_named Usage file = Nothing
+file_named ReadFault file = Nothing
+file_named WriteFault file = Nothing
+file_named NoMemory file = Nothing
+file_named (NotAMessage place) file = Nothing
+file_named BadReply file = Nothing
+file_named (Refused number) file = Nothing
+file_named BadFile file = File file
+
+-- what a note names of a command that asks no server
+abbrev pub named_of : Status → Option Command → Named
+named_of status None = Nothing
+named_of status (Some answer) = Nothing
+named_of status (Some (explain file)) = file_named status file
+named_of status (Some (demo size)) = Nothing
+named_of status (Some (knife told)) = Nothing
+
+-- a command that asks a server
+abbrev pub asks_a_server : Option Command → Bool
+asks_a_server None = false
+asks_a_server (Some answer) = false
+asks_a_server (Some (explain file)) = false
+asks_a_server (Some (demo size)) = false
+asks_a_server (Some (knife told)) = true
+
+-- a command that asks no server makes no connection, and its note names just the file that is bad
+pub record IsApart (ended : Ended) (command : Option Command) (peer : PeerCourse) : Type 0 where
+  pub no_peer : IsPeerUntouched peer
+  pub named : ended.named ≡ named_of ended.status command
+
+-- the command that these words are ended so
+pub record Performed (ended : Ended) (words : List (List ℕ)) (input output : Course (List ℕ)) (disk : Course Files) (peer : PeerCourse) : Type 0 where
+  -- 2: only where the words aren't understood: they are no command, or spell no errand of `knife`
+  pub usage : ended.status ≡ Usage → is_understood (command_of words) ≡ false
+  -- and where they aren't it is 2, but for want of memory to read them
+  pub no_command : is_understood (command_of words) ≡ false → (ended.status ≡ Usage) ⊎ (ended.status ≡ NoMemory)
+  -- and then nothing was read, written or asked
+  pub idle : is_understood (command_of words) ≡ false → IsUntouched input × IsUntouched output × IsUntouched disk × IsPeerUntouched peer
   -- `answer`: the isolation theorem
-  pub answered : command_of words ≡ Some answer → Answered status input output disk
+  pub answered : command_of words ≡ Some answer → Answered ended.status input output disk
   -- `explain`
-  pub explained : (file : List ℕ) → command_of words ≡ Some (explain file) → Explained status file input output disk
+  pub explained : (file : List ℕ) → command_of words ≡ Some (explain file) → Explained ended.status file input output disk
   -- `demo`
-  pub demonstrated : (size : ℕ) → command_of words ≡ Some (demo size) → Demonstrated status size input output disk
+  pub demonstrated : (size : ℕ) → command_of words ≡ Some (demo size) → Demonstrated ended.status size input output disk
+  -- `knife`
+  pub knifed : (told : Knife) (errand : Errand) → command_of words ≡ Some (knife told) → errand_in told.words ≡ Some errand
+      → Knifed ended (whom_of told) errand input output disk peer
+  -- any other asks no server
+  pub apart : asks_a_server (command_of words) ≡ false → IsApart ended (command_of words) peer
 
 -- a run of these words ended with this status; `before` and `after` are the notes as a value
-pub record Ran {N : Type 0} (status : Status) (words : List (List ℕ)) (input output notes : Course (List ℕ)) (disk : Course Files) (before after : N) : Type 0 where
-  pub performed : Performed status words input output disk
+pub record Ran {N : Type 0} (status : Status) (words : List (List ℕ)) (input output notes : Course (List ℕ)) (disk : Course Files) (peer : PeerCourse) (before after : N) : Type 0 where
+  -- what the note names
+  pub named : Named
+  pub performed : Performed (record { status = status; named = named }) words input output disk peer
   -- at 0 nothing is noted, and else one line, or a front of it where that write failed
-  pub noted : IsNoted status (file_of (command_of words)) notes.old notes.new notes.faults_before notes.faults_after
+  pub noted : IsNoted status named notes.old notes.new notes.faults_before notes.faults_after
   -- at 0 the notes aren't touched
   pub quiet : status ≡ Done → after ≡ before

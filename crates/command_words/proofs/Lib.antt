@@ -1,3 +1,5 @@
 mod NumberLemmas
 mod WordLemmas
 mod OptionLemmas
+mod ServerLemmas
+mod GivenLemmas

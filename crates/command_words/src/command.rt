@@ -1,10 +1,22 @@
 //! The commands of the program.
 
-ghost use Rattle.std.specs.Prelude.{◌≡◌, Some};
-ghost use Rattle.command_words.specs.Words as spec;
-ghost use Rattle.command_words.specs.Reading.{told};
-
 use doc_tree::Text;
+
+/// What `knife` is told.
+#[derive(Drop)]
+pub struct KnifeWords {
+    /// The server's host, as a URL writes it: a domain in lower case and in ASCII, an IPv4 address, or an
+    /// IPv6 address between brackets.
+    pub host: Text,
+    /// The server's port, which is 1 to 65535, and 80 where the URL has none.
+    pub port: u16,
+    /// The organisation: any text.
+    pub org: Text,
+    /// The user who asks: any text.
+    pub user: Text,
+    /// The words that say what is asked, in their order, of which there is one at least.
+    pub words: Vec<Text>,
+}
 
 /// A command, as its words spell it.
 #[derive(Drop)]
@@ -16,16 +28,7 @@ pub enum Command {
     Explain(Text),
     /// `demo --size N`: a demonstration of a size, which is 1 to 200.
     Demo(u64),
-}
-
-impl Command {
-    /// The file that the command names, and nothing where it names none.
-    pub fn file(&self) -> &str
-        ensures { result.now ≡ spec.file_of (Some (told self.now)) }
-    {
-        match self {
-            Command::Explain(file) => file.as_str(),
-            Command::Answer | Command::Demo(_) => "",
-        }
-    }
+    /// `knife --server URL --org O --user U WORD..`: requests are sent to a server, and what it tells is
+    /// printed.
+    Knife(KnifeWords),
 }

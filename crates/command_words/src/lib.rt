@@ -2,9 +2,12 @@
 #![tactic(auto)]
 
 mod command;
+mod given;
+mod knife;
 mod numbers;
 mod options;
+mod servers;
 mod words;
 
-pub use command::Command;
+pub use command::{Command, KnifeWords};
 pub use words::command_of;

@@ -15,6 +15,16 @@ pub(crate) fn size_in(text: &str) -> Option<u64>
     }
 }
 
+/// The port that a text writes: a number of 1 to 65535.
+pub(crate) fn port_in(text: &str) -> Option<u16>
+    ensures { result ≡ spec.port_in text.now }
+{
+    match number_in(text) {
+        Some(number) if 1 <= number && number <= 65535 => Some(number as u16),
+        _ => None,
+    }
+}
+
 // A number has 1 to 10 digits, so it is below 2^64.
 fn number_in(text: &str) -> Option<u64>
     ensures { result ≡ spec.number_in text.now }

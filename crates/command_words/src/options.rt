@@ -31,7 +31,12 @@ pub(crate) fn value_given(
     }
 }
 
-fn value_of_one(alloc: Global, option: &str, word: &str) -> Result<Option<Text>, NoMemory>
+/// The value of an option, by its name without hyphens, in a word `--OPTION=V`.
+pub(crate) fn value_of_one(
+    alloc: Global,
+    option: &str,
+    word: &str,
+) -> Result<Option<Text>, NoMemory>
     requires name { has_byte 61 option.now ≡ false }
     requires utf8 { IsUtf8 word.now }
     ensures { IfOk result (λ value. value ≡ spec.joined_value (codes "--" ++ option.now) word.now) }
@@ -42,7 +47,8 @@ fn value_of_one(alloc: Global, option: &str, word: &str) -> Result<Option<Text>,
     value_in(alloc, option, &[word])
 }
 
-fn value_of_two(
+/// The value of an option, by its name without hyphens, in two words `--OPTION V`.
+pub(crate) fn value_of_two(
     alloc: Global,
     option: &str,
     word: &str,

@@ -5,14 +5,15 @@ ghost use Rattle.command_words.specs.Words as spec;
 ghost use Rattle.command_words.specs.Reading.{told};
 
 use crate::command::Command;
+use crate::knife::knife_words;
 use crate::numbers::size_in;
 use crate::options::value_given;
 use doc_tree::{NoMemory, Text};
 use std::alloc::Global;
 
-/// The command that the words behind the program's name are: `answer`, `explain --sources FILE` or
-/// `demo --size N`; an option may also stand as `--sources=FILE` and `--size=N`. `None` where they are no
-/// command, as with `--help`, `--version` or `--`.
+/// The command that the words behind the program's name are: `answer`, `explain --sources FILE`,
+/// `demo --size N` or `knife --server URL --org O --user U WORD..`; an option may also stand as
+/// `--sources=FILE`. `None` where they are no command, as with `--help` or `--version`.
 pub fn command_of(alloc: Global, words: &[Text]) -> Result<Option<Command>, NoMemory>
     // The one refusal is want of memory.
     ensures { IfOk result (λ command. option_map told command ≡ spec.command_of words.now) }
@@ -34,6 +35,9 @@ fn command_with(alloc: Global, word: &str, words: &[Text]) -> Result<Option<Comm
     }
     if word == "demo" {
         return demo_with(alloc, words);
+    }
+    if word == "knife" {
+        return knife_with(alloc, words);
     }
     Ok(None)
 }
@@ -73,5 +77,14 @@ fn demo_of(text: &str) -> Option<Command>
     match size_in(text) {
         Some(size) => Some(Command::Demo(size)),
         None => None,
+    }
+}
+
+fn knife_with(alloc: Global, words: &[Text]) -> Result<Option<Command>, NoMemory>
+    ensures { IfOk result (λ command. option_map told command ≡ spec.knife_with words.now) }
+{
+    match knife_words(alloc, words)? {
+        Some(told) => Ok(Some(Command::Knife(told))),
+        None => Ok(None),
     }
 }

@@ -68,6 +68,29 @@ beta read d41d8cd98f00b204e9800998ecf8427e => none, awaited, of 1
 const COPIED: &str = "acme read 0cc175b9c0f1b6a831c399e269772661 => 1 bytes, true, not awaited, of 2
 ";
 
+// What is laid in place of what is there, as a row that was kept holds it, and what is told.
+const LAID: &str = "acme lay_file open a => laid
+acme read 0cc175b9c0f1b6a831c399e269772661 => 1 bytes, false, not awaited, of 0
+acme lay_file committed a => laid
+acme read 0cc175b9c0f1b6a831c399e269772661 => 1 bytes, true, not awaited, of 0
+acme lay_file committed abc => laid
+acme lay_file open abc => laid
+acme read 900150983cd24fb0d6963f7d28e17f72 => 3 bytes, false, not awaited, of 0
+acme lay_sandbox f16509a997a692fc9b3badae6e720393 d41d8cd98f00b204e9800998ecf8427e => laid
+acme look f16509a997a692fc9b3badae6e720393 => d41d8cd98f00b204e9800998ecf8427e
+acme read d41d8cd98f00b204e9800998ecf8427e => none, awaited, of 0
+acme lay_sandbox f16509a997a692fc9b3badae6e720393 900150983cd24fb0d6963f7d28e17f72 0cc175b9c0f1b6a831c399e269772661 => laid
+acme look f16509a997a692fc9b3badae6e720393 => 0cc175b9c0f1b6a831c399e269772661 900150983cd24fb0d6963f7d28e17f72
+acme read d41d8cd98f00b204e9800998ecf8427e => none, not awaited, of 0
+acme lay_count 7 => laid
+acme read 900150983cd24fb0d6963f7d28e17f72 => 3 bytes, false, awaited, of 7
+acme lay_count 1 => laid
+beta read 900150983cd24fb0d6963f7d28e17f72 => none, not awaited, of 0
+acme begin d41d8cd98f00b204e9800998ecf8427e => da20926c5058c7236be681ca6b2ad590
+acme commit f16509a997a692fc9b3badae6e720393 => committed
+acme read 900150983cd24fb0d6963f7d28e17f72 => 3 bytes, true, not awaited, of 2
+";
+
 fn checksum(alloc: Global, text: &str) -> Result<Checksum, NoMemory> {
     read_checksum(&Text::from_str(alloc, text)?).ok_or(NoMemory)
 }
@@ -179,6 +202,38 @@ fn look(alloc: Global, files: &Files, org: &Text, text: &str) -> Result<String, 
     }
 }
 
+// Lays a file of these bytes, committed or open.
+fn lay_file(alloc: Global, files: &mut Files, org: &Text, text: &str) -> Result<String, NoMemory> {
+    let (flag, bytes) = text.split_once(' ').unwrap_or((text, ""));
+    let file = hashed(alloc, bytes)?;
+    files.reserve(alloc, org, 1)?;
+    files.lay_file(org, file, flag == "committed");
+    Ok(String::from_str(alloc, "laid")?)
+}
+
+// Lays a sandbox of an id that lists checksums.
+fn lay_sandbox(
+    alloc: Global,
+    files: &mut Files,
+    org: &Text,
+    text: &str,
+) -> Result<String, NoMemory> {
+    let (id, texts) = text.split_once(' ').unwrap_or((text, ""));
+    let id = checksum(alloc, id)?;
+    let sums = sums(alloc, texts)?;
+    files.reserve(alloc, org, 1)?;
+    files.lay_sandbox(org, id, sums);
+    Ok(String::from_str(alloc, "laid")?)
+}
+
+#[tactic(auto, using(crate::proofs::PartLemmas::part_there))]
+fn lay_count(alloc: Global, files: &mut Files, org: &Text, text: &str) -> Result<String, NoMemory> {
+    let count = text.parse::<u64>().unwrap_or(0);
+    files.reserve(alloc, org, 1)?;
+    files.lay_count(org, count);
+    Ok(String::from_str(alloc, "laid")?)
+}
+
 // What is told when this is done with a text in an organisation.
 fn done(
     alloc: Global,
@@ -194,6 +249,9 @@ fn done(
         "read" => read(alloc, files, org, text),
         "release" => release(alloc, files, org, text),
         "look" => look(alloc, files, org, text),
+        "lay_file" => lay_file(alloc, files, org, text),
+        "lay_sandbox" => lay_sandbox(alloc, files, org, text),
+        "lay_count" => lay_count(alloc, files, org, text),
         _ => Ok(String::from_str(alloc, "no deed")?),
     }
 }
@@ -287,5 +345,12 @@ fn each_organisation_has_files_and_sandboxes_of_its_own(rt: HostRuntime) -> Resu
         lines_otherwise(rt.alloc(), &mut copy, COPIED)?.as_str(),
         ""
     );
+    Ok(())
+}
+
+#[test]
+fn what_was_kept_is_laid_in_place_of_what_is_there(rt: HostRuntime) -> Result<(), Fail> {
+    let mut files = Files::none(rt.alloc());
+    assert_eq!(rt; lines_otherwise(rt.alloc(), &mut files, LAID)?.as_str(), "");
     Ok(())
 }

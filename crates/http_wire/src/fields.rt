@@ -19,11 +19,7 @@ const LARGEST_BODY: u64 = 67_108_864;
 const MOST_DIGITS: usize = 20;
 
 /// What the headers of this name say.
-pub(crate) fn value_named<'b>(
-    held: &'b [u8],
-    headers: &[HeaderSpan],
-    name: &[u8],
-) -> HeaderValue<'b>
+pub fn value_named<'b>(held: &'b [u8], headers: &[HeaderSpan], name: &[u8]) -> HeaderValue<'b>
     requires { All (IsHeaderWithin (length held.now)) headers.now }
     ensures { Stands result (spec.values_named name.now (map (header_bytes held.now) headers.now)) }
 {
@@ -107,7 +103,9 @@ fn only_length(named: HeaderValue<'_>) -> Option<u64>
     }
 }
 
-fn read_length(value: &[u8]) -> Option<u64>
+/// The length of a body that the value of a header says: 1 to 20 decimal digits of a number up to
+/// 67,108,864 (RFC 9112, section 6). Any other value says none.
+pub fn read_length(value: &[u8]) -> Option<u64>
     ensures { result ≡ spec.read_length value.now }
 {
     if value.is_empty() || value.len() > MOST_DIGITS {

@@ -14,7 +14,7 @@ use httparse::spans::{HeaderSpan, RequestSpans, parse_request};
 use outside_core::Source;
 
 /// The most headers that a message may have.
-pub(crate) const MOST_HEADERS: usize = 64;
+pub const MOST_HEADERS: usize = 64;
 
 /// Reads until the room holds the whole head of a message, and says where its parts are, or that
 /// the stream is at its end. The head stays in the room.

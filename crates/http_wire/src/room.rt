@@ -1,19 +1,17 @@
 //! Room for the bytes of a stream that were read and not yet used.
-ghost use Rattle.std.specs.Prelude.{◌≡◌, ℕ, ◌+◌, ◌<◌, ◌≤◌, ◌++◌, List, [], MatchBool, IfOk, OnErr, vec_len, length, take, drop};
-ghost use Rattle.std.specs.Io.KnownBytes.{IsAtEnd, prepend_known};
+ghost use Rattle.std.specs.Prelude.{◌≡◌, ◌+◌, ◌<◌, ◌≤◌, [], MatchBool, IfOk, OnErr, length, drop};
+ghost use Rattle.std.specs.Io.KnownBytes.{IsAtEnd};
 ghost use Rattle.outside_core.specs.Failed.{HasCause};
 ghost use Rattle.http_wire.specs.Faults.{OnNotAMessage, HasReadCause};
 ghost use Rattle.http_wire.specs.Room.{stream};
 
 use crate::faults::WireFault;
+use crate::window::Window;
 use doc_tree::NoMemory;
 use http_routes::Routes;
 use outside_core::{Failed, Source};
 use std::alloc::Global;
 use std::marker::Model;
-
-/// How many bytes a room holds: as many as a message's head may have.
-const CAPACITY: usize = 16_384;
 
 /// Room for the bytes that were read of a stream and not yet used, and the router by which its
 /// requests find their routes: both are made once a stream.
@@ -22,22 +20,20 @@ const CAPACITY: usize = 16_384;
 /// the next one. Contracts see it as the bytes held and their place in the stream.
 #[derive(Drop)]
 pub struct Room {
-    bytes: Vec<u8>,
-    start: usize,
-    count: usize,
+    window: Window,
     place: u64,
     routes: Routes,
 }
 
 impl Model for Room {
-    ghost use Rattle.std.specs.Prelude.{◌≡◌, ◌+◌, ◌≤◌, take, drop, vec_len};
+    ghost use Rattle.std.specs.Prelude.{◌≤◌};
     ghost use Rattle.http_wire.specs.Held.{Held};
 
     ghost Value = { Held };
 
-    ghost view = { λ r. record { held = take r.count (drop r.start r.bytes.items); place = r.place } };
+    ghost view = { λ r. record { held = r.window; place = r.place } };
 
-    ghost invariant = { λ r. (vec_len r.bytes ≡ 16384) × (r.start + r.count ≤ 16384) × (r.place ≤ 1099511627776) };
+    ghost invariant = { λ r. r.place ≤ 1099511627776 };
 }
 
 impl Room {
@@ -46,9 +42,7 @@ impl Room {
         ensures { IfOk result (λ room. room ≡ record { held = []; place = 0 }) }
     {
         Ok(Room {
-            bytes: vec![in alloc; 0; CAPACITY]?,
-            start: 0,
-            count: 0,
+            window: Window::take(alloc)?,
             place: 0,
             routes: Routes::take(alloc)?,
         })
@@ -64,14 +58,14 @@ impl Room {
         ensures bytes { result.now ≡ self.now.held }
         ensures fits { length result.now ≤ 16384 }
     {
-        &self.bytes[self.start..self.start + self.count]
+        self.window.held()
     }
 
     /// Whether it holds as much as it can.
     pub(crate) fn is_full(&self) -> bool
         ensures { MatchBool result (length self.now.held ≡ 16384) (length self.now.held < 16384) }
     {
-        self.count == CAPACITY
+        self.window.is_full()
     }
 
     /// The fault that no message begins at the room's place.
@@ -109,10 +103,7 @@ impl Room {
         ensures aside { S.aside source.new ≡ S.aside source.old }
         ensures cause { HasCause (S.faults source.old) (S.faults source.new) result }
     {
-        self.start = make_room(&mut self.bytes, self.start, self.count);
-        let count = read_behind(&mut self.bytes, self.start + self.count, source)?;
-        self.count += count;
-        Ok(count)
+        self.window.fill(source)
     }
 
     /// Whether the stream has more bytes, of which it then holds some.
@@ -125,11 +116,7 @@ impl Room {
         ensures aside { S.aside source.new ≡ S.aside source.old }
         ensures cause { HasReadCause (S.faults source.old) (S.faults source.new) result }
     {
-        if !self.held().is_empty() {
-            return Ok(true);
-        }
-        let count = self.fill(source)?;
-        Ok(count > 0)
+        Ok(self.window.has_more(source)?)
     }
 
     /// Lets go of bytes at the front.
@@ -137,37 +124,6 @@ impl Room {
         requires { count ≤ length self.old.held }
         ensures { self.new ≡ record self.old { held = drop count self.old.held } }
     {
-        self.start += count;
-        self.count -= count;
+        self.window.drop_front(count);
     }
-}
-
-// Where the bytes in use begin once they have room behind them: at the front where they had none.
-fn make_room(bytes: &mut Vec<u8>, start: usize, count: usize) -> usize
-    requires within { start + count ≤ vec_len bytes.old }
-    requires not_full { count < vec_len bytes.old }
-    ensures room { result + count < vec_len bytes.new }
-    ensures size { vec_len bytes.new ≡ vec_len bytes.old }
-    ensures kept { take count (drop result bytes.new.items) ≡ take count (drop start bytes.old.items) }
-{
-    if start + count < bytes.len() {
-        return start;
-    }
-    bytes.copy_within(start..start + count, 0);
-    0
-}
-
-// Reads once, into the bytes from `at` on.
-fn read_behind<S: Source>(bytes: &mut Vec<u8>, at: usize, source: &mut S) -> Result<usize, Failed>
-    requires { at < vec_len bytes.old }
-    ensures size { vec_len bytes.new ≡ vec_len bytes.old }
-    ensures front { take at bytes.new.items ≡ take at bytes.old.items }
-    ensures within { IfOk result (λ count. at + count ≤ vec_len bytes.new) }
-    ensures bytes { IfOk result (λ count. S.left source.old ≡ prepend_known (take count (drop at bytes.new.items)) (S.left source.new)) }
-    ensures end { IfOk result (λ count. count ≡ 0 → IsAtEnd (S.left source.new)) }
-    ensures failed { OnErr result (S.left source.new ≡ S.left source.old) }
-    ensures aside { S.aside source.new ≡ S.aside source.old }
-    ensures cause { HasCause (S.faults source.old) (S.faults source.new) result }
-{
-    source.read(&mut bytes[at..])
 }

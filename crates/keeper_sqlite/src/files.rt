@@ -5,6 +5,7 @@ ghost use Rattle.keeper_sqlite.specs.Files.{path_of};
 
 use doc_tree::{NoMemory, Text};
 use std::alloc::Global;
+use std::fs::{DirEntry, ReadDir};
 use std::{fs, io};
 
 /// The path of a shard's file: `shard-K-of-N.db` in the folder.
@@ -21,13 +22,24 @@ pub(crate) fn path_of(
 
 /// Whether a folder has a file of a shard among another number of shards.
 pub(crate) fn has_others(rt: &HostRuntime, folder: &str, shards: u32) -> io::Result<bool> {
-    for entry in fs::read_dir(rt, folder)? {
-        let entry = entry?;
-        if is_of_others(entry.file_name(), shards) {
+    let mut entries = fs::read_dir(rt, folder)?;
+    any_is_of_others(&mut entries, shards)
+}
+
+fn any_is_of_others(entries: &mut ReadDir, shards: u32) -> io::Result<bool> {
+    for entry in entries {
+        if is_told_of_others(entry, shards)? {
             return Ok(true);
         }
     }
     Ok(false)
+}
+
+fn is_told_of_others(entry: io::Result<DirEntry>, shards: u32) -> io::Result<bool> {
+    match entry {
+        Ok(entry) => Ok(is_of_others(entry.file_name(), shards)),
+        Err(error) => Err(error),
+    }
 }
 
 fn is_of_others(name: &str, shards: u32) -> bool {

@@ -6,6 +6,7 @@ ghost use Rattle.object_store.specs.Items.{ids_in, item_name};
 ghost use Rattle.object_store.specs.Objects.{names_in};
 ghost use Rattle.doc_tree.specs.declared.kind.Kind.TheVariants as kinds;
 ghost use Rattle.org_core.specs.Conditions.{MeetsConditions};
+ghost use Rattle.org_core.specs.FullStates.{MeetsFileConditions};
 ghost use Rattle.std.specs.FinMap as finite;
 ghost use Rattle.membership.specs.Changes.{with_client, with_groups, with_user, without_client, without_user};
 ghost use Rattle.org_core.specs.States.{state_in, state_from, cookbooks_of, shelved_of, objects_of, lists_of, object_in, has_object, list_in, membership_of, room_for, IsNobody};
@@ -71,6 +72,33 @@ impl OrgState {
             objects: Objects::none(alloc, hasher),
             groups: Groups::none(alloc, hasher),
             shelves: OrgShelves::none(alloc),
+            hasher,
+        }
+    }
+
+    /// The state of an organisation of this name that is there and has just these parts, as they were
+    /// kept, with the files under its name. They meet the conditions of every organisation's. The
+    /// files stay where they are. It takes no memory.
+    pub fn of(
+        hasher: RandomState,
+        org: Text,
+        objects: Objects,
+        groups: Groups,
+        shelves: OrgShelves,
+        files: &Files,
+    ) -> OrgState
+        requires conditions { MeetsConditions (state_from true objects groups shelves) }
+        requires files { MeetsFileConditions (record { state = state_from true objects groups shelves; files = holding_of files.now org }) }
+        ensures name { result.name ≡ org }
+        ensures state { state_in result ≡ state_from true objects groups shelves }
+    {
+        let _ = files;
+        OrgState {
+            org,
+            there: true,
+            objects,
+            groups,
+            shelves,
             hasher,
         }
     }

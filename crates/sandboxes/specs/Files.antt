@@ -1,5 +1,5 @@
 -- What is kept for organisations, by their names.
-use Rattle.std.specs.Prelude.{◌≡◌, ◌≢◌, ℕ, List, unwrap_or, refl}
+use Rattle.std.specs.Prelude.{◌≡◌, ◌≢◌, ℕ, List, None, unwrap_or, refl}
 use Rattle.std.specs.Coded.{Coded, code_by, coded×, coded_ℕ}
 use Rattle.std.specs.FinMap as finite
 use Rattle.doc_tree.specs.Text.{text_cmp}
@@ -29,6 +29,10 @@ holding_of files org = (kept_of files org).holding
 -- its room
 abbrev pub spare_of : KeptByName → List ℕ → ℕ
 spare_of files org = (kept_of files org).spare
+
+-- the organisation of this name was named before, so that there is a place for what is kept for it
+abbrev pub HasPart : KeptByName → List ℕ → Type 0
+HasPart files org = finite.get files org ≢ None
 
 -- what is kept for every other organisation is as it was
 abbrev pub OthersStay : List ℕ → KeptByName → KeptByName → Type 0

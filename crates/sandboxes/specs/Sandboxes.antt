@@ -109,6 +109,20 @@ abbrev pub released : Sums → Holding → Holding
 released sums holding =
     record { files = without sums holding.files; sandboxes = holding.sandboxes; count = holding.count }
 
+-- with a file, committed or not, in place of one of its checksum
+abbrev pub laid_file : List ℕ → Bool → Holding → Holding
+laid_file file is_committed holding =
+    record { files = finite.insert holding.files (checksum_of file) (record { file = file; committed = is_committed }); sandboxes = holding.sandboxes; count = holding.count }
+
+-- with a sandbox of this id that lists these checksums, in place of one of this id
+abbrev pub laid_sandbox : List ℕ → Sums → Holding → Holding
+laid_sandbox id sums holding =
+    record { files = holding.files; sandboxes = finite.insert holding.sandboxes id sums; count = holding.count }
+
+-- with this count in place of its own
+abbrev pub laid_count : ℕ → Holding → Holding
+laid_count count holding = record { files = holding.files; sandboxes = holding.sandboxes; count = count }
+
 -- each file is kept under its own checksum
 abbrev pub AreNamed : Stock → Type 0
 AreNamed files = (sum : List ℕ) → ForSome (finite.get files sum) (λ stored. checksum_of stored.file ≡ sum)

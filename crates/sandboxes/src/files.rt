@@ -3,8 +3,8 @@ ghost use Rattle.std.specs.Prelude.{◌≡◌, ◌+◌, ◌<◌, ◌≤◌, ◌�
 ghost use Rattle.std.specs.FinMap as finite;
 ghost use Rattle.sandboxes.specs.declared.fault.SandFault.TheVariants as fault;
 ghost use Rattle.sandboxes.specs.Checksums.{checksum_of};
-ghost use Rattle.sandboxes.specs.Sandboxes.{nothing, id_or_end, begun, awaits, upload_fault, uploaded, missing_from, committed, released};
-ghost use Rattle.sandboxes.specs.Files.{holding_of, spare_of, OthersStay};
+ghost use Rattle.sandboxes.specs.Sandboxes.{nothing, id_or_end, begun, awaits, upload_fault, uploaded, missing_from, committed, released, laid_file, laid_sandbox, laid_count};
+ghost use Rattle.sandboxes.specs.Files.{holding_of, spare_of, HasPart, OthersStay};
 
 use crate::checksum::Checksum;
 use crate::fault::{Refused, SandFault};
@@ -147,6 +147,48 @@ impl Files {
             return;
         };
         part.release(sums);
+    }
+
+    /// Puts in a file that was kept for an organisation, committed or not, in place of one of its
+    /// checksum. It takes no memory.
+    pub fn lay_file(&mut self, org: &Text, file: Hashed, committed: bool)
+        requires { 0 < spare_of self.old org.now }
+        ensures holding { holding_of self.new org.now ≡ laid_file file committed (holding_of self.old org.now) }
+        ensures spare { spare_of self.old org.now ≤ spare_of self.new org.now + 1 }
+        ensures others { OthersStay org.now self.old self.new }
+    {
+        match self.parts.get_mut(org) {
+            Some(part) => part.lay_file(file, committed),
+            None => unreachable!(),
+        }
+    }
+
+    /// Puts in an uncommitted sandbox that was kept for an organisation, in place of one of its id. It
+    /// takes no memory.
+    pub fn lay_sandbox(&mut self, org: &Text, id: Checksum, sums: Sums)
+        requires { 0 < spare_of self.old org.now }
+        ensures holding { holding_of self.new org.now ≡ laid_sandbox id sums (holding_of self.old org.now) }
+        ensures spare { spare_of self.old org.now ≤ spare_of self.new org.now + 1 }
+        ensures others { OthersStay org.now self.old self.new }
+    {
+        match self.parts.get_mut(org) {
+            Some(part) => part.lay_sandbox(id, sums),
+            None => unreachable!(),
+        }
+    }
+
+    /// Puts in how many sandboxes an organisation has made, in place of the count that is there. It
+    /// takes no memory. For the organisation something is there, as after `reserve` for one file or more.
+    pub fn lay_count(&mut self, org: &Text, count: u64)
+        requires { HasPart self.old org.now }
+        ensures holding { holding_of self.new org.now ≡ laid_count count (holding_of self.old org.now) }
+        ensures spare { spare_of self.new org.now ≡ spare_of self.old org.now }
+        ensures others { OthersStay org.now self.old self.new }
+    {
+        match self.parts.get_mut(org) {
+            Some(part) => part.lay_count(count),
+            None => unreachable!(),
+        }
     }
 
     /// The file of a checksum that an organisation has, and whether it is committed.

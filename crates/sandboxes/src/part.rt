@@ -6,7 +6,7 @@ ghost use Rattle.indexmap.specs.IndexMap.{spare, values, IsUnique};
 ghost use Rattle.sandboxes.specs.declared.fault.SandFault.TheVariants as fault;
 ghost use Rattle.sandboxes.specs.Checksums.{checksum_of};
 ghost use Rattle.sandboxes.specs.Sums.{lists};
-ghost use Rattle.sandboxes.specs.Sandboxes.{nothing, id_or_end, begun, awaits, upload_fault, uploaded, with_file, missing_from, with_committed, committed, without, released};
+ghost use Rattle.sandboxes.specs.Sandboxes.{nothing, id_or_end, begun, awaits, upload_fault, uploaded, with_file, missing_from, with_committed, committed, without, released, laid_file, laid_sandbox, laid_count};
 
 use crate::checksum::Checksum;
 use crate::fault::{Refused, SandFault};
@@ -169,6 +169,33 @@ impl Part {
         ensures spare { self.old.spare ≤ self.new.spare }
     {
         drop_files(&mut self.files, sums);
+    }
+
+    /// Puts a file in, committed or not, in place of one of its checksum. It takes no memory.
+    pub fn lay_file(&mut self, file: Hashed, committed: bool)
+        requires { 0 < self.old.spare }
+        ensures holding { self.new.holding ≡ laid_file file committed self.old.holding }
+        ensures spare { self.old.spare ≤ self.new.spare + 1 }
+    {
+        let sum = file.digest();
+        put(&mut self.files, sum, Stored { file, committed });
+    }
+
+    /// Puts a sandbox in, in place of one of its id. It takes no memory.
+    pub fn lay_sandbox(&mut self, id: Checksum, sums: Sums)
+        requires { 0 < self.old.spare }
+        ensures holding { self.new.holding ≡ laid_sandbox id sums self.old.holding }
+        ensures spare { self.old.spare ≤ self.new.spare + 1 }
+    {
+        put(&mut self.sandboxes, id, sums);
+    }
+
+    /// Puts in how many sandboxes were made. It takes no memory.
+    pub fn lay_count(&mut self, count: u64)
+        ensures holding { self.new.holding ≡ laid_count count self.old.holding }
+        ensures spare { self.new.spare ≡ self.old.spare }
+    {
+        self.count = count;
     }
 
     /// The file of a checksum, and whether it is committed.

@@ -1,7 +1,8 @@
--- The line that tells of want of memory names no file.
+-- The line that tells of want of memory names nothing.
+use Rattle.command_words.specs.Words.{command_of}
+use Rattle.chefsite.specs.declared.named.Named.TheVariants.{Nothing}
 use Rattle.chefsite.specs.declared.statuses.Status.TheVariants.{NoMemory}
-use Rattle.chefsite.proofs.ContractLemmas.{noted_without_file}
-use Rattle.command_words.specs.Words.{command_of, file_of}
+use Rattle.chefsite.proofs.ContractLemmas.{unnamed}
 use Rattle.chefsite.proofs.end_without_memory.Goals as goal
 
 pub returns : goal.returns
@@ -9,5 +10,7 @@ returns g c = λ words. record {
   status = NoMemory;
   number = c.end_before.ensures.number;
   usage = λ usage. absurd (cc usage);
-  noted = noted_without_file (file_of (command_of words)) _ _ _ _ c.end_before.ensures.noted;
+  named = Nothing;
+  names = λ no_server. unnamed (command_of words);
+  noted = c.end_before.ensures.noted;
 }

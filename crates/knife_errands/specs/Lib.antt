@@ -1,0 +1,9 @@
+pub mod Kinds
+pub mod Words
+pub mod Targets
+pub mod Requests
+pub mod Bodies
+pub mod Printing
+pub mod RunLists
+pub mod Files
+pub mod Outcomes

@@ -1,0 +1,12 @@
+pub mod WordLemmas
+pub mod PlaceLemmas
+pub mod TextLemmas
+pub mod BodyLemmas
+pub mod LegalLemmas
+pub mod EntryLemmas
+pub mod SameLemmas
+pub mod ContentLemmas
+pub mod GoodLemmas
+pub mod BackLemmas
+pub mod HeldLemmas
+pub mod BadLemmas

@@ -1,0 +1,10 @@
+pub mod Places
+pub mod Things
+pub mod Bodies
+pub mod Reading
+pub mod Rows
+pub mod References
+pub mod Reasons
+pub mod Contents
+pub mod Legal
+pub mod Laws

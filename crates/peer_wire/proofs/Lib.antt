@@ -1,0 +1,5 @@
+pub mod HeaderLemmas
+pub mod TextLemmas
+pub mod AnswerLemmas
+pub mod StreamLemmas
+pub mod FaultLemmas

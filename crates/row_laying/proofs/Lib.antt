@@ -1,0 +1,15 @@
+pub mod StepLemmas
+pub mod SoundLemmas
+pub mod RowsLemmas
+pub mod DocLemmas
+pub mod KeptLemmas
+pub mod ClientLemmas
+pub mod MemberLemmas
+pub mod FirstLemmas
+pub mod ObjectLemmas
+pub mod ShelfLemmas
+pub mod ListedLemmas
+pub mod ConditionsLemmas
+pub mod LegalLemmas
+pub mod PartLemmas
+pub mod BehindLemmas

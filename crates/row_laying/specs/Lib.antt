@@ -1,0 +1,4 @@
+pub mod SaidRows
+pub mod KeptRows
+pub mod Laying
+pub mod Laid

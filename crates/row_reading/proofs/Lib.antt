@@ -1,0 +1,9 @@
+pub mod TokenLemmas
+pub mod BodyLemmas
+pub mod SaidLemmas
+pub mod TextLemmas
+pub mod AssignedLemmas
+pub mod SumsLemmas
+pub mod NameLemmas
+pub mod PlaceLemmas
+pub mod RowLemmas

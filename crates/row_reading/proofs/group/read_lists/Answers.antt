@@ -1,0 +1,17 @@
+-- What is found in the tree of the body, and written as the body, is what it says.
+use Rattle.std.proofs.Common.{◌≡◌, IfOk, ap, option_map, subst, sym, ◌∙◌}
+use Rattle.doc_tree.specs.Tree.{doc_of}
+use Rattle.org_rows.specs.Bodies.{group_body}
+use Rattle.org_rows.specs.Reading.{members_in, written_as}
+use Rattle.row_reading.specs.Bodies.{members_listed}
+use Rattle.row_reading.proofs.SaidLemmas.{none_said, said_ok_as}
+use Rattle.row_reading.proofs.group.read_lists.Goals as goal
+
+pub returns-in_ok-found-in-Some : goal.returns-in_ok-found-in-Some
+returns-in_ok-found-in-Some c =
+    let body = c.args.body.now in
+    let written = subst (λ f. IfOk c.if_written.result (λ kept. option_map members_listed kept ≡ written_as (group_body c.args.name.now) body f)) c.in_ok-found-in-Some.ensures c.if_written.ensures.found in
+    said_ok_as (group_body c.args.name.now) members_in body members_listed (doc_of c.in-Some.tree) c.if_written.result (λ compact. sym (ap (option_map doc_of) c.in-Some.is) ∙ c.in_ok-tree.ensures compact) written c.if_written.ensures.compact
+
+pub returns-in-None : goal.returns-in-None
+returns-in-None c = none_said (group_body c.args.name.now) members_in c.args.body.now (λ compact. sym (ap (option_map doc_of) c.in-None.is) ∙ c.in_ok-tree.ensures compact)
