@@ -1,0 +1,5 @@
+//! Tests of what rows say.
+#![tactic(auto)]
+
+#[cfg(test)]
+mod row_reading_tests;
